@@ -1,4 +1,4 @@
--- The lines of bytes that are cut behind a line feed, at their first line and at their last one.
+-- The lines of bytes that are cut after a line feed, at their first line and at their last one.
 use Rattle.std.proofs.Common.{◌≡◌, ◌⊎◌, ℕ, ◌+◌, ◌-◌, ◌<◌, Bool, true, false, not, nat_eq, cond, Some, None, List, [], ◌∷◌, ◌++◌, length, take, drop, get_or, refl, sym, ap, subst, ◌∙◌, arith, append_assoc, append-nil, inl, inr}
 use Rattle.std.proofs.lemmas.Bool.{and_from, false≢true, not_from_false, ne_eqb}
 use Rattle.std.proofs.lemmas.List.{append_cancel_right, take-append-drop}
@@ -11,7 +11,7 @@ use Rattle.lis_cuts.specs.Returns.{are_none}
 use Rattle.lis_cuts.proofs.Places.{before_first_place, cut_at_first, none_at_last, behind_last_place, front_at_last, last_apart}
 use Rattle.lis_words.specs.Bytes.{is_feed}
 
--- ---- bytes behind a closed front
+-- ---- bytes after a closed prefix
 byte_closed : (b : ℕ) (texts : List (List ℕ)) (o : Bool) (more : Lines) → (byte_before b texts o).is_open ≡ false
     → byte_before b (texts ++ more.texts) more.is_open ≡ lines ((byte_before b texts o).texts ++ more.texts) more.is_open
 byte_closed b [] o more closed = absurd cc
@@ -37,7 +37,7 @@ closed_cut (b ∷ xs) ys closed =
     let parts = before_closed b (lines_of xs) (lines_of ys) closed in
     ap (before b) (closed_cut xs ys parts.1) ∙ parts.0
 
--- ---- whether bytes are closed, by the last of them
+-- ---- whether bytes are closed, by their last byte
 some_before : (b : ℕ) (cut : Lines) → 0 < length (before b cut).texts
 some_before b cut = by (is_feed b) cut.texts
   where
@@ -84,14 +84,14 @@ feed_closed xs = open_by_last xs 10
 pub open_last : (bytes : List ℕ) → 0 < length bytes → (lines_of bytes).is_open ≡ not (is_feed (get_or bytes (length bytes - 1) 0))
 open_last bytes some = ap (λ xs. (lines_of xs).is_open) (last_apart bytes some) ∙ open_by_last (take (length bytes - 1) bytes) (get_or bytes (length bytes - 1) 0)
 
--- no line feed stands at their end
+-- no line feed is at their end
 pub trimmed_open : (bytes : List ℕ) → 0 < length bytes → (get_or bytes (length bytes - 1) 0 ≡ 10 → ⊥) → IsTrimmed bytes bytes
 trimmed_open bytes some other = inr (refl, inr (open_last bytes some ∙ not_from_false _ (ne_eqb _ 10 other)))
 
 pub trimmed_closed : (bytes : List ℕ) → 0 < length bytes → get_or bytes (length bytes - 1) 0 ≡ 10 → IsTrimmed bytes (take (length bytes - 1) bytes)
 trimmed_closed bytes some feed = inl (last_apart bytes some ∙ ap (λ b. take (length bytes - 1) bytes ++ b ∷ []) feed)
 
--- ---- one text alone
+-- ---- a single text
 pub open_text : (text : List ℕ) → has_no_feed text ≡ true → 0 < length text → lines_of text ≡ lines (text ∷ []) true
 open_text [] no_feed some = absurd (omega arith)
 open_text (b ∷ text) no_feed some = joined_cut ((b ∷ text) ∷ []) true (record { no_feeds = and_from _ _ no_feed refl; end = refl })

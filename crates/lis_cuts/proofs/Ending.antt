@@ -50,7 +50,7 @@ ends_behind (first ∷ next ∷ front) (text ∷ texts) some = ends_behind (next
 pub ends_by_last : (texts front : List (List ℕ)) (last : List ℕ) → texts ≡ front ++ last ∷ [] → ends_in_some texts ≡ is_some_bytes last
 ends_by_last texts front last is = ap ends_in_some is ∙ ends_behind front (last ∷ []) (omega arith)
 
--- each mark stands for a text at least
+-- each mark represents at least one text
 run_some : (n : ℕ) (runs : List (List (List ℕ))) (mark : List ℕ) → AreSome runs → 0 < length (run_at (marked n runs) mark)
 run_some n [] mark some = omega arith
 run_some n (run ∷ runs) mark some = by (same_word (mark_of n run) mark) (run_some (n + 1) runs mark some.1)

@@ -50,7 +50,7 @@ pub behind_head : (head word rest : List ℕ) → pointwise nat_eq (take (length
 behind_head head word rest begins is =
     sym (take-append-drop (length head) word) ∙ ap (λ xs. xs ++ drop (length head) word) (same (take (length head) word) head begins) ∙ ap (λ xs. head ++ xs) (sym is)
 
--- a word that does not
+-- a word that does not begin with it
 not_behind : (head word v : List ℕ) → pointwise nat_eq (take (length head) word) head ≡ false → same_word (head ++ v) word ≡ false
 not_behind head word v other = false_from_ne_true _ (λ e.
     let is : head ++ v ≡ word = same (head ++ v) word e in

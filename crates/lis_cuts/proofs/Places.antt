@@ -23,7 +23,7 @@ none_there byte bytes none = others byte bytes (λ k below. other_at byte bytes 
 pub none_at_last : (byte : ℕ) (bytes : List ℕ) → IsLastByte (is_byte byte) bytes None → list_all (is_other byte) bytes ≡ true
 none_at_last byte bytes none = others byte bytes (λ k below. other_at byte bytes k (none k (omega arith) below))
 
--- the bytes, cut at one of them
+-- the bytes, cut at one of their bytes
 cut_there : (byte : ℕ) (bytes : List ℕ) (k : ℕ) → k < length bytes → is_byte byte (get_or bytes k 0) ≡ true → bytes ≡ take k bytes ++ byte ∷ drop (k + 1) bytes
 cut_there byte bytes k below is =
     sym (take-append-drop k bytes)
@@ -40,7 +40,7 @@ before_first_place byte bytes k found =
 pub cut_at_first : (byte : ℕ) (bytes : List ℕ) (k : ℕ) → IsFirstByte (is_byte byte) bytes (Some k) → bytes ≡ take k bytes ++ byte ∷ drop (k + 1) bytes
 cut_at_first byte bytes k found = cut_there byte bytes k found.0.high found.1
 
--- found last: the bytes behind it are others
+-- found last: the bytes after it are others
 pub behind_last_place : (byte : ℕ) (bytes : List ℕ) (k : ℕ) → IsLastByte (is_byte byte) bytes (Some k) → list_all (is_other byte) (drop (k + 1) bytes) ≡ true
 behind_last_place byte bytes k found =
     others byte (drop (k + 1) bytes) (λ i below.
@@ -50,7 +50,7 @@ behind_last_place byte bytes k found =
 pub front_at_last : (byte : ℕ) (bytes : List ℕ) (k : ℕ) → IsLastByte (is_byte byte) bytes (Some k) → take (k + 1) bytes ≡ take k bytes ++ byte ∷ []
 front_at_last byte bytes k found = take_more bytes k 0 found.0.high ∙ ap (λ b. take k bytes ++ b ∷ []) (eqb-true _ byte found.1)
 
--- some bytes, and the last of them
+-- some bytes, split before the last one
 pub last_apart : (bytes : List ℕ) → 0 < length bytes → bytes ≡ take (length bytes - 1) bytes ++ get_or bytes (length bytes - 1) 0 ∷ []
 last_apart bytes some =
     let one : length bytes - 1 + 1 ≡ length bytes = omega arith in

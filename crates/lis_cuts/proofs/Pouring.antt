@@ -1,4 +1,4 @@
--- A content that is put together of the lines of an edited view and the runs of the old content.
+-- A content that is made from the lines of an edited view and the runs of the old content.
 use Rattle.std.proofs.Common.{◌≡◌, ℕ, ◌+◌, ◌<◌, ◌≤◌, Bool, true, false, cond, ◌&&◌, ◌||◌, Option, Some, None, is_some, MatchOption, List, [], ◌∷◌, ◌++◌, length, map, filter, flat_map, codes, refl, sym, ap, subst, ◌∙◌, arith, append_assoc, append-nil, length-append, inl, inr, le-leb}
 use Rattle.std.specs.List.{list_all}
 use Rattle.std.specs.Cmp.Lexicographic.{pointwise}
@@ -19,7 +19,7 @@ use Rattle.lis_views.proofs.Pieces.{AreSome, pieces_some}
 use Rattle.lis_views.proofs.Backs.{kept_no_mark, words_decide, edited, pieces_mean}
 use Rattle.lis_cuts.specs.Returns.{Holds, feed_unless, are_none}
 
--- ---- bytes behind a payload
+-- ---- bytes after a payload
 pub held_more : (payload longer : Payload) (bytes more : List ℕ) → Holds payload bytes → longer ≡ with_bytes payload more → Holds longer (bytes ++ more)
 held_more payload longer bytes more held is =
     is ∙ ap (λ (p : Payload). with_bytes p more) held
@@ -35,7 +35,7 @@ feed_len bytes t = by t (length-append bytes (feed_unless t))
     by true e = omega arith
     by false e = omega arith
 
--- ---- texts that are joined one behind another
+-- ---- texts that are joined one after another
 -- a run before other texts
 pub joined_parts : (is_open : Bool) (run texts : List (List ℕ)) → 0 < length run
     → joined_lines is_open (run ++ texts) ≡ (joined_lines true run ++ feed_unless (is_open && are_none texts)) ++ joined_lines is_open texts
@@ -78,7 +78,7 @@ poured_none runs (text ∷ texts) some = by (is_kept text)
     by true = refl
     by false = behind (first_run runs) (poured (other_runs runs) texts) (first_some runs some)
 
--- where the marks are those of the runs, in order, these are the new texts
+-- if the marks are those of the runs, in order, these are the new texts
 pieces_poured : (n : ℕ) (parts : List Piece) → poured (runs_of parts) (piece_lines n parts) ≡ flat_map texts_in parts
 pieces_poured n [] = refl
 pieces_poured n (Shown text ∷ parts) = ap (λ ts. text ∷ ts) (pieces_poured n parts)
@@ -114,8 +114,8 @@ same_mark n run runs text texts formed other is =
     marks_with (marked n (run ∷ runs)) text texts true (mark_there text formed other)
     ∙ ap (λ t. t && pointwise same_word (filter is_mark texts) (map (λ pair. pair.0) (marked (n + 1) runs))) is
 
--- ---- how far it has come
--- The lines before the rest are in the new content, and so are the runs of the old content before what is left of it.
+-- ---- how far it is
+-- The lines before the rest are in the new content, and so are the runs of the old content before those that are left.
 pub record Pours (runs : List (List (List ℕ))) (texts : List (List ℕ)) (is_open : Bool) (number : ℕ) (left : List (List (List ℕ))) (rest : List (List ℕ)) (payload : Payload) : Type 0 where
   pub written : List ℕ
   pub held : Holds payload written

@@ -1,4 +1,4 @@
--- How far the lines of a content were passed, and the pieces that they make.
+-- How many lines of a content were passed, and the pieces that they make.
 use Rattle.std.proofs.Common.{◌≡◌, ◌⊎◌, ℕ, ◌+◌, ◌-◌, Bool, true, false, not, cond, Some, None, List, [], ◌∷◌, ◌++◌, length, take, refl, sym, ap, subst, ◌∙◌, arith, append_assoc, append-nil, length-append, inl, inr}
 use Rattle.std.specs.List.{list_all}
 use Rattle.std.proofs.lemmas.Bool.{and_parts, and_from, not-true, not_from_false}
@@ -14,7 +14,7 @@ use Rattle.lis_cuts.specs.Cuts.{IsFirst, IsClosed}
 use Rattle.lis_cuts.specs.Stretches.{run_piece, shown_piece}
 use Rattle.lis_cuts.proofs.Cut.{closed_cut, feed_closed, open_text, first_texts}
 
--- ---- pieces behind hidden texts
+-- ---- pieces after hidden texts
 module _ (test : List ℕ → Bool) where
   all_hidden : List (List ℕ) → List Piece → List Piece
   all_hidden [] parts = parts
@@ -69,7 +69,7 @@ some_first bytes text rest first none =
 pub closed_here : (place : List Formula) (bytes rest text more : List ℕ) (hidden : ℕ) → (p : Passed place bytes rest hidden) → IsFirst rest text more → IsClosed p.run
 closed_here place bytes rest text more hidden p first = elim p.closed [ inl none ↦ absurd (some_first rest text more first none) | inr closed ↦ closed ]
 
--- one line more behind a closed front
+-- one more line after a closed prefix
 more_passed : (place : List Formula) (bytes rest text more part : List ℕ) (hidden : ℕ) → (p : Passed place bytes rest hidden) → IsClosed p.run
     → line_holds place text ≡ false → (lines_of part).texts ≡ text ∷ [] → part ++ more ≡ rest → (more ≡ []) ⊎ IsClosed part → Passed place bytes more (hidden + 1)
 more_passed place bytes rest text more part hidden p closed fails one whole ends =

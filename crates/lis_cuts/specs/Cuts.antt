@@ -2,7 +2,7 @@
 use Rattle.std.specs.Prelude.{◌≡◌, ◌⊎◌, ℕ, ◌<◌, true, false, List, [], ◌∷◌, ◌++◌, length, IsTrue}
 use Rattle.lis_views.specs.Lines.{lines_of, has_no_feed}
 
--- The first text of some bytes, and what stands behind it: nothing, where no line feed stands there.
+-- The first text of some bytes, and the bytes after its line feed: none, if no line feed follows the text.
 pub record IsFirst (bytes text rest : List ℕ) : Type 0 where
   pub no_feed : IsTrue (has_no_feed text)
   pub whole : (bytes ≡ text ++ 10 ∷ rest) ⊎ ((bytes ≡ text) × (rest ≡ []) × (0 < length text))

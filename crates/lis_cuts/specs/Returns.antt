@@ -1,4 +1,4 @@
--- What is said of an edited view that was put back.
+-- What is stated of an edited view that was put back.
 use Rattle.std.specs.Prelude.{◌≡◌, ℕ, Bool, true, false, if◌then◌else◌, List, [], ◌∷◌, length}
 use Rattle.lis_model.specs.Step.{Payload}
 use Rattle.lis_model.specs.Script.{payload_of}
@@ -17,7 +17,7 @@ Returns NotAView result payload = result ≡ NotInForm
 Returns WrongMarks result payload = result ≡ OtherMarks
 Returns (Content bytes) result payload = (result ≡ Whole) × Holds payload bytes
 
--- the line feed behind a text, unless the text is to end without one
+-- the line feed after a text, unless the text must end without one
 abbrev pub feed_unless : Bool → List ℕ
 feed_unless is_last = if is_last then [] else 10 ∷ []
 

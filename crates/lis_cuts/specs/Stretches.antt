@@ -1,9 +1,9 @@
--- Pieces in stretches: hidden texts, and the text that is shown behind them.
+-- Pieces in stretches: hidden texts, and the shown text after them.
 use Rattle.std.specs.Prelude.{ℕ, Option, Some, None, List, [], ◌∷◌}
 use Rattle.lis_views.specs.Views.{Piece}
 use Rattle.lis_views.specs.Views.Piece.{Shown, Hidden}
 
--- the piece of some hidden texts; none where there are none
+-- the piece of some hidden texts; none if there are no texts
 abbrev pub run_piece : List (List ℕ) → List Piece
 run_piece [] = []
 run_piece (text ∷ texts) = Hidden (text ∷ texts) ∷ []

@@ -1,4 +1,4 @@
-//! What an edited view of a content makes of it.
+//! What an edited view makes of a content.
 
 ghost use Rattle.std.specs.Prelude.{◌≡◌, ◌+◌, ◌<◌, ◌≤◌, ◌^◌, true, false, List, [], ◌∷◌, ◌++◌, ◌&&◌, length, codes, MatchOption};
 ghost use Rattle.std.specs.Bool.{OnTrue};
@@ -17,7 +17,7 @@ use lis_place::Place;
 /// What was made of an edited view.
 #[derive(Clone, Copy, Debug, PartialEq, Eq)]
 pub enum Returned {
-    /// Refused: it is not in the form of a view.
+    /// Refused: it is not a view.
     NotInForm,
     /// Refused: its marks are not those of the view, each once and in order.
     OtherMarks,
@@ -53,7 +53,7 @@ fn are_edited(lines: &[u8]) -> bool
     true
 }
 
-// The run that the view has at the mark; none where the view does not have it.
+// The run of the view at the mark; none if the view does not have the mark.
 fn run_at<'a>(place: &Place, old: &'a [u8], wanted: &[u8]) -> Option<&'a [u8]>
     ensures { MatchOption result (run_at (view_marks old.now place.now) wanted.now ≡ codes "?" ∷ [])
         (λ run. run_at (view_marks old.now place.now) wanted.now ≡ (lines_of run.now).texts) }
@@ -79,7 +79,7 @@ fn ends_in_some(bytes: &[u8]) -> bool
     }
 }
 
-// Whether the last of the new texts is there, and not empty.
+// Whether there is a last new text, and it is not empty.
 fn new_ends_in_some(place: &Place, old: &[u8], lines: &[u8]) -> bool
     ensures { result ≡ ends_in_some (new_texts (view_marks old.now place.now) (lines_of lines.now).texts) }
 {
@@ -108,7 +108,7 @@ fn is_in_form(place: &Place, old: &[u8], lines: &[u8], is_open: bool) -> bool
     new_ends_in_some(place, old, lines)
 }
 
-// Whether a text ends the new content without a line feed, where this is behind its line.
+// Whether a text whose line `rest` follows ends the new content without a line feed.
 fn ends_open(is_open: bool, rest: &[u8]) -> bool
     ensures { result ≡ (is_open && are_none (lines_of rest.now).texts) }
 {
@@ -125,7 +125,7 @@ fn append(new: &mut Payload, text: &[u8], is_last: bool)
     }
 }
 
-// Puts the new content together, and answers whether the marks are those of the view.
+// Puts the new content together, and returns whether the marks are those of the view.
 fn pour(place: &Place, old: &[u8], lines: &[u8], is_open: bool, new: &mut Payload) -> bool
     requires edited { list_all is_edited (lines_of lines.now).texts ≡ true }
     requires short { length old.now + length lines.now < 2 ^ 63 }
@@ -156,7 +156,7 @@ fn pour(place: &Place, old: &[u8], lines: &[u8], is_open: bool, new: &mut Payloa
     next_run(place, hidden).is_none()
 }
 
-/// Puts an edited view of the old content back. Where it is not refused, the new content is in the payload.
+/// Puts an edited view of the old content back. Unless it is refused, the new content is in the payload.
 pub fn put_back(place: &Place, old: &[u8], input: &[u8], new: &mut Payload) -> Returned
     requires { length old.now + length input.now < 2 ^ 63 }
     ensures { Returns (back_of old.now place.now input.now) result new.new }

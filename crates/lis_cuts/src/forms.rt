@@ -11,7 +11,7 @@ use arrayvec::ArrayVec;
 use itoa::Buffer;
 use memchr::memchr;
 
-/// The bytes behind the `+`, where the line begins with one.
+/// The bytes after the `+`, if the line begins with one.
 pub fn kept_text(text: &[u8]) -> Option<&[u8]>
     ensures kept { MatchOption result (is_kept text.now ≡ false) (λ kept. (is_kept text.now ≡ true) × (kept.now ≡ but_first text.now)) }
     ensures shorter { IfSome result (λ kept. length kept.now + 1 ≡ length text.now) }

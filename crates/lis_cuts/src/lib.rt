@@ -1,4 +1,4 @@
-//! Parts of a file over bytes in memory: its lines and which of them a formula holds of, its view, and what an edited view makes of it.
+//! Parts of a file over bytes in memory: its lines, of which lines a formula holds, its view, and what an edited view makes of it.
 #![tactic(auto)]
 
 pub mod back;

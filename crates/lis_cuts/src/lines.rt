@@ -6,7 +6,7 @@ ghost use Rattle.lis_cuts.specs.Cuts.{IsFirst, IsTrimmed};
 
 use memchr::{memchr, memrchr};
 
-/// The first line, and what stands behind it. None comes exactly where there are no bytes.
+/// The first line, and the bytes after it. The result is `None` exactly if there are no bytes.
 pub fn first_line(bytes: &[u8]) -> Option<(&[u8], &[u8])>
     ensures texts { MatchOption result ((lines_of bytes.now).texts ≡ [])
         (λ found. (lines_of bytes.now).texts ≡ found.0.now ∷ (lines_of found.1.now).texts) }
@@ -43,7 +43,7 @@ pub fn without_feed(bytes: &[u8]) -> &[u8]
     }
 }
 
-/// Whether no line feed stands behind the last line.
+/// Whether the last line has no line feed.
 pub fn is_open(bytes: &[u8]) -> bool
     ensures { result ≡ (lines_of bytes.now).is_open }
 {
@@ -53,7 +53,7 @@ pub fn is_open(bytes: &[u8]) -> bool
     }
 }
 
-/// The last line, and the bytes of the lines before it. None comes exactly where there are no bytes.
+/// The last line, and the bytes of the lines before it. The result is `None` exactly if there are no bytes.
 pub fn last_line(bytes: &[u8]) -> Option<(&[u8], &[u8])>
     ensures texts { MatchOption result ((lines_of bytes.now).texts ≡ [])
         (λ found. (lines_of bytes.now).texts ≡ (lines_of found.0.now).texts ++ found.1.now ∷ []) }

@@ -1,4 +1,4 @@
-//! A content in stretches, by which of its lines a formula holds of.
+//! A content in stretches, by whether a formula holds of its lines.
 
 ghost use Rattle.std.specs.Prelude.{◌≡◌, ◌+◌, ◌<◌, ◌≤◌, [], ◌∷◌, ◌++◌, length, MatchOption, IfSome, IfNone, option_copied};
 ghost use Rattle.lis_views.specs.Lines.{lines_of};
@@ -9,20 +9,20 @@ use crate::lines::first_line;
 use crate::truth::line_holds;
 use lis_place::Place;
 
-/// Some hidden lines, and the line that is shown behind them. There may be none of either.
+/// Some hidden lines, and the shown line after them. Both may be missing.
 #[derive(Clone, Copy)]
 pub struct Stretch<'a> {
     /// How many lines are hidden.
     pub hidden: u64,
     /// Their bytes.
     pub run: &'a [u8],
-    /// The shown line; none only at the end of the content.
+    /// The shown line; `None` only at the end of the content.
     pub shown: Option<&'a [u8]>,
-    /// What stands behind it.
+    /// The bytes after it.
     pub rest: &'a [u8],
 }
 
-/// The first stretch of a content. Each of its lines is looked at once.
+/// The first stretch of a content. Each of its lines is read once.
 pub fn next_stretch<'a>(place: &Place, bytes: &'a [u8]) -> Stretch<'a>
     ensures pieces { pieces bytes.now place.now
         ≡ run_piece (lines_of result.run.now).texts ++ (shown_piece (option_copied result.shown) ++ pieces result.rest.now place.now) }
@@ -62,11 +62,11 @@ pub struct Run<'a> {
     pub count: u64,
     /// Their bytes.
     pub bytes: &'a [u8],
-    /// What of the content is still to be looked at.
+    /// What remains of the content.
     pub rest: &'a [u8],
 }
 
-/// The next run of hidden lines. None comes exactly where no line is hidden.
+/// The next run of hidden lines. The result is `None` exactly if no line is hidden.
 pub fn next_run<'a>(place: &Place, bytes: &'a [u8]) -> Option<Run<'a>>
     ensures runs { MatchOption result (runs_of (pieces bytes.now place.now) ≡ [])
         (λ run. runs_of (pieces bytes.now place.now) ≡ (lines_of run.bytes.now).texts ∷ runs_of (pieces run.rest.now place.now)) }

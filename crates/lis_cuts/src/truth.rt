@@ -1,4 +1,4 @@
-//! Of which lines a formula holds.
+//! Whether a formula holds of a line.
 
 ghost use Rattle.std.specs.Prelude.{◌≡◌, ◌&&◌, List};
 ghost use Rattle.std.specs.List.{list_all, list_any, slice_split};
@@ -14,7 +14,7 @@ use lis_place::Place;
 use lis_table::truth::{Described, holds_all};
 use lis_words::{Word, is_plain_byte};
 
-/// The most bytes of a run that makes a word behind `word:`.
+/// The most bytes of a run that becomes a word after `word:`.
 const MAX_RUN: usize = 55;
 
 fn is_bare(byte: u8) -> bool
@@ -57,7 +57,7 @@ fn is_directive(text: &[u8]) -> bool
     }
 }
 
-// Whether the line has the word `line:` with this behind it.
+// Whether the line has the word `line:` followed by this.
 fn has_kind(text: &[u8], kind: &[u8]) -> bool
     ensures { result ≡ has_value (line_kinds text.now) kind.now }
 {
@@ -93,7 +93,7 @@ fn has_this_run(text: &[u8], value: &[u8]) -> bool
         .any(|run| run == value)
 }
 
-// Whether the line has the word `word:` with this behind it.
+// Whether the line has the word `word:` followed by this.
 fn has_run(text: &[u8], value: &[u8]) -> bool
     ensures { result ≡ has_value (short_runs text.now) value.now }
 {
@@ -119,7 +119,7 @@ pub fn line_has(text: &[u8], word: &[u8]) -> bool
     false
 }
 
-/// A line, as what formulas are true of.
+/// A line, as something of which formulas hold.
 #[derive(Clone, Copy)]
 pub struct Line<'a> {
     pub text: &'a [u8],

@@ -1,4 +1,4 @@
--- Parts of a dump worked by the definitions alone, by what a store keeps.
+-- Parts of a dump worked out by the definitions alone, by what a store keeps.
 use Rattle.std.proofs.Common.{◌≡◌, ℕ, true, false, Option, Some, None, List, [], ◌∷◌, codes, refl}
 use Rattle.std.specs.List.{find, flat_map}
 use Rattle.lis_fields.specs.declared.slots.AxiomSlot.TheVariants.{Free as FreeAxiom, Pair}
@@ -12,7 +12,7 @@ use Rattle.lis_dump.specs.Showing.{declaring_line, entry_axioms}
 abbrev small : Limits
 small = record { files = 64; props = 64; blocks = 8; version = 2 }
 
--- five words, the valued one not declared, and three axioms in the slots as they came
+-- five words, the valued one not declared, and three axioms in their slots
 abbrev kept : Metadata
 kept = record (empty_metadata small 0) {
   dict = record { props = 64; entries = (codes "band", 4) ∷ (codes "music", 2) ∷ (codes "rock", 0) ∷ (codes "year:", 1) ∷ (codes "year:1971", 3) ∷ [] };
@@ -26,7 +26,7 @@ words_shown = refl
 axioms_shown : flat_map (entry_axioms kept) kept.dict.entries ≡ codes "axiom rock band\naxiom rock music\naxiom year:1971 rock\n"
 axioms_shown = refl
 
--- how a loop takes the axioms of a word
+-- how a loop gets the axioms of a word
 abbrev behind : Option (List ℕ) → Option (List ℕ)
 behind last = find (is_behind last) (rights_of (axioms_of kept) (codes "rock"))
 

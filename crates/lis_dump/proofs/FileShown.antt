@@ -1,4 +1,4 @@
--- A file, shown in three pieces: the line that adds it, its bytes, and what stands behind them.
+-- A file, shown in three pieces: the line that adds it, its bytes, and what follows them.
 use Rattle.std.proofs.Common.{◌≡◌, ℕ, List, ◌∷◌, ◌++◌, Result, Ok, Err, codes, decimal}
 use Rattle.lis_ports.specs.Meaning.{Meaning}
 use Rattle.lis_model.specs.State.{State}

@@ -32,7 +32,7 @@ use Rattle.lis_session.proofs.Blocks.{size_is}
 abbrev file_seen : Metadata → ℕ → Option (List ℕ × ℕ)
 file_seen k n = option_map name_and_slot (slice_get (map (placed k) k.catalog.entries) n)
 
--- what is seen of it is kept
+-- what is seen of it is what is kept
 seen_filed : (k : Metadata) (n : ℕ) (o : Option Filed) → slice_get k.catalog.entries n ≡ o → file_seen k n ≡ option_map (λ (f : Filed). (f.rec.name, f.slot)) o
 seen_filed k n o is = entry_seen k k.catalog.entries n ∙ ap (option_map (λ (f : Filed). (f.rec.name, f.slot))) is
 
@@ -70,7 +70,7 @@ module _ {k : Stored} {m : Meaning} (sound : IsSound k) (state : State) (fitting
   pub few_files : length state.files ≤ k.metadata.limits.files
   few_files = omega (arith, fits.tells.formed.few_files, ap (λ (l : Limits). l.files) (limits_told k.metadata fits.kept state sound.metadata sound.free fits.tells))
 
-  -- there is none in that place
+  -- there is none at that index
   pub no_file_at : (n : ℕ) → file_seen k.metadata n ≡ None → [] ≡ flat_map file_lines (option_to_list (slice_get state.files n))
   no_file_at n seen = sym (ap (λ o. flat_map file_lines (option_to_list o)) (nth_told n ∙ ap (option_map (file_told k.metadata.limits k.metadata.dict fits.kept)) (not_filed k.metadata n seen)))
 
@@ -97,7 +97,7 @@ module _ {k : Stored} {m : Meaning} (sound : IsSound k) (state : State) (fitting
         by None none also = absurd none
         by (Some rec) is same = same ∙ is
 
-    -- the line that adds it, its bytes, and what stands behind them
+    -- the line that adds it, its bytes, and what follows them
     pub lines_are : (size len count : ℕ) (words seen first others : List (List ℕ)) → IsSomeAnd (rec_at k.metadata.catalog slot) (λ (rec : FileRecord). size ≡ rec.size)
         → IsSomeAnd (rec_at k.metadata.catalog slot) (λ (rec : FileRecord). words ≡ words_told k.metadata.dict rec.tags) → seen ≡ words → len ≡ length words → count ≡ min len 8 → first ≡ take count seen → others ≡ drop count seen
         → words_line (codes "add" ∷ name ∷ decimal size ∷ first) ++ ((file_of state.files name).bytes ++ 10 ∷ mv_lines name others) ≡ file_lines (file_of state.files name)

@@ -35,7 +35,7 @@ less_from_test Less is = refl
 less_from_test Equal is = absurd cc
 less_from_test Greater is = absurd cc
 
--- ---- words behind another
+-- ---- words after another
 behind_behind : (last : Option (List ℕ)) (word next : List ℕ) → is_behind last word ≡ true → word_cmp word next ≡ Less → is_behind last next ≡ true
 behind_behind None word next is less = refl
 behind_behind (Some first) word next is less = ap is_lt (word_order.trans first word next (less_from_test (word_cmp first word) is) less)
@@ -55,7 +55,7 @@ none_behind test (x ∷ xs) none = by (test x) none (none_behind test xs)
     by true some rest = absurd cc
     by false none rest = rest none
 
--- the first of them, and those behind it
+-- the first of them, and those after it
 first_behind : (last : Option (List ℕ)) (words : List (List ℕ)) (word : List ℕ) → is_rising word_cmp words ≡ true → find (is_behind last) words ≡ Some word
     → filter (is_behind last) words ≡ word ∷ filter (is_behind (Some word)) words
 first_behind last [] word rising is = absurd cc
@@ -124,7 +124,7 @@ axioms_rise k = rising_from_sorted pair_cmp pair_order (axioms_of k) (sorted_wit
 abbrev pub lines_behind : List (List ℕ × List ℕ) → List ℕ → Option (List ℕ) → List ℕ
 lines_behind axioms left last = flat_map (λ (right : List ℕ). axiom_line (left, right)) (filter (is_behind last) (rights_of axioms left))
 
--- how many they are
+-- how many there are
 abbrev pub count_behind : List (List ℕ × List ℕ) → List ℕ → Option (List ℕ) → ℕ
 count_behind axioms left last = length (filter (is_behind last) (rights_of axioms left))
 
@@ -136,7 +136,7 @@ module _ (k : Metadata) (left : List ℕ) where
       each [] = refl
       each (word ∷ words) = ap (λ ws. word ∷ ws) (each words)
 
-  -- `found` is the first of those behind the last one, as a call sees that
+  -- `found` is the first of those after the last one, in the terms of a call
   module _ (last seen found : Option (List ℕ)) (same : seen ≡ last) (is : found ≡ find (is_behind seen) (rights_of (axioms_of k) left)) where
     first : find (is_behind last) (rights_of (axioms_of k) left) ≡ found
     first = sym (is ∙ ap (λ o. find (is_behind o) (rights_of (axioms_of k) left)) same)
@@ -155,7 +155,7 @@ module _ (k : Metadata) (left : List ℕ) where
       fewer_left = omega (arith, ap length rest)
 
 -- ---- word by word
--- The axioms of the least left side stand before the others.
+-- The axioms of the least left side are before the others.
 module _ (left : List ℕ) where
   abbrev is_other : List ℕ × List ℕ → Bool
   is_other pair = not (is_from left pair)
@@ -243,7 +243,7 @@ by_words (word ∷ words) axioms words_rise rising named =
         by (inl same) other = absurd (let is = ap not ((same_word_decides p.0 word).1 (sym same)) in cc)
         by (inr m) other = m
 
--- ---- what is kept
+-- ---- what memory keeps
 axioms_by_words : (k : Metadata) → AreSound k → flat_map (entry_axioms k) k.dict.entries ≡ flat_map axiom_line (axioms_of k)
 axioms_by_words k sound =
     sym (flat_map-map (axiom_lines (axioms_of k)) (λ (e : List ℕ × ℕ). e.0) k.dict.entries)

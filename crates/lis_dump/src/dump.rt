@@ -15,8 +15,8 @@ use lis_ports::Station;
 use lis_session::end::End;
 use lis_store::Store;
 
-/// Shows the dump of the state for which the image stands: each line by one call, and the bytes of each file block by block. It takes
-/// no memory.
+/// Shows the dump of the state that the image represents: each line by one call, and the bytes of each file block by block. It allocates no
+/// memory.
 pub fn dump_state<T: Station>(store: &Store, station: &mut T) -> Result<(), End>
     requires sound { IsSound store.now }
     requires usable { IsUsable store.now (T.meaning station.old) }

@@ -17,7 +17,7 @@ use lis_session::end::End;
 use lis_store::Store;
 use lis_words::Name;
 
-/// The most words that a file is given by the line that adds it.
+/// The most words that the line which adds a file assigns to it.
 const MAX_ADDED: usize = 8;
 
 // Shows the file in the slot, which has this name.

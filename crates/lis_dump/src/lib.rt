@@ -1,4 +1,4 @@
-//! The dump of the state for which an image stands, shown: the session that makes the state again, as text.
+//! Shows the dump of the state that an image represents: the session, as text, that makes the state again.
 #![tactic(auto)]
 
 mod axioms;

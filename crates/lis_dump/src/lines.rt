@@ -25,7 +25,7 @@ fn begin(bytes: &[u8]) -> Line
     line
 }
 
-// Adds a byte, and a word behind it.
+// Appends a byte, and a word after it.
 fn add_word(line: &mut Line, byte: u8, word: &[u8])
     requires { length line.old.items + length word.now < MAX_LINE + 1 }
     ensures { line.new.items ≡ line.old.items ++ byte ∷ word.now }
@@ -34,7 +34,7 @@ fn add_word(line: &mut Line, byte: u8, word: &[u8])
     line.try_extend_from_slice(word).unwrap();
 }
 
-// Adds the byte, and a word behind it, for each of the words.
+// Appends the byte, and a word after it, for each of the words.
 fn add_words(line: &mut Line, byte: u8, words: &[Word])
     requires { length line.old.items + (MAX_WORD + 1) * length words.now ≤ MAX_LINE + 1 }
     ensures added { line.new.items ≡ line.old.items ++ flat_map (λ word. byte ∷ word) words.now }
@@ -55,7 +55,7 @@ pub fn mkdir_line(word: &Word) -> Line
     line
 }
 
-/// The line that adds a file with so many bytes and these words.
+/// The line that adds a file with this many bytes and these words.
 pub fn add_line(name: &Name, size: u32, words: &[Word]) -> Line
     requires { length words.now ≤ 8 }
     ensures { result.items ≡ words_line (codes "add" ∷ name.now ∷ decimal size ∷ words.now) }
@@ -69,7 +69,7 @@ pub fn add_line(name: &Name, size: u32, words: &[Word]) -> Line
     line
 }
 
-/// The line feed behind a file's bytes, and behind it the line that gives the file more words, where there are any.
+/// The line feed after a file's bytes, and then the line that assigns more words to the file, if there are any.
 pub fn mv_line(name: &Name, words: &[Word]) -> Line
     requires { length words.now ≤ 8 }
     ensures { result.items ≡ 10 ∷ mv_lines name.now words.now }

@@ -1,4 +1,4 @@
-//! Sources and the words that they give, as another program that was written apart from this one computed them.
+//! Sources and the words that they give, as another program computed them that was written separately.
 
 use crate::derive::{fields, spaced};
 use lis_csource::source_props;
@@ -12,7 +12,7 @@ fn words_of(alloc: Global, source: &[u8]) -> Result<Vec<u8>, AllocError> {
     spaced(alloc, out.as_slice())
 }
 
-/// Each source behind a `|`, and its words behind a `$`.
+/// Each source after a `|`, and its words after a `$`.
 fn sources() -> &'static [u8] {
     b"\
 |/* #include \"no.h\" */\n#include <stdio.h>\n#include \"sub/list.h\"\nstatic const char *s = \"{\";\nint main(void) {\n  puts(s);\n}\n$includes:stdio.h includes:list.h defines:main\

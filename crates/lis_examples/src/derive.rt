@@ -5,7 +5,7 @@ use lis_words::{Word, read_name};
 use std::alloc::{AllocError, Global};
 use std::test::Fail;
 
-/// Words, with a blank between two of them.
+/// Words, separated by blanks.
 pub fn spaced(alloc: Global, words: &[Word]) -> Result<Vec<u8>, AllocError> {
     let mut text = Vec::new(alloc);
     for word in words {
@@ -17,7 +17,7 @@ pub fn spaced(alloc: Global, words: &[Word]) -> Result<Vec<u8>, AllocError> {
     Ok(text)
 }
 
-/// What a row of a table in one text has before its `$`, and behind it.
+/// The parts of a table's row before and after its `$`.
 pub fn fields(row: &[u8]) -> Result<(&[u8], &[u8]), Fail> {
     let mut fields = row.splitn(2, |byte| *byte == b'$');
     match (fields.next(), fields.next()) {

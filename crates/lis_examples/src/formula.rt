@@ -1,4 +1,4 @@
-//! Formula texts and their answers, as the grammar gives them by generating formula texts, and not by reading them.
+//! Formula texts and their results. The grammar gives them by generating formula texts, and not by reading them.
 
 use lis_formula::{FormulaFault, print, read_formula, resolve};
 use lis_place::Place;

@@ -1,4 +1,4 @@
-//! What public calls of the lower crates give, by hand or by another program. All here are tests.
+//! What public calls of the lower crates give, computed by hand or by another program. All code here is tests.
 #![tactic(auto)]
 
 #[cfg(test)]

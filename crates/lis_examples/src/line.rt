@@ -1,4 +1,4 @@
-//! Inputs and their items, worked out by hand. In rows `;` stands for a line feed and `^` for a carriage return.
+//! Inputs and their items, worked out by hand. In rows `;` means a line feed and `^` a carriage return.
 
 use lis_line::reader::{Item, LineReader, Payload};
 use lis_model::command::Command;
@@ -53,7 +53,7 @@ fn inputs() -> &'static [(&'static str, u64, &'static str)] {
         ("ls;add a 0", 10, "other,add 0 ,end,"),
         ("ls;add a 0;", 10, "other,limit,"),
         ("add a 999999999999;a", 99, "3,end,"),
-        // Tests are words of a line; a zero in front makes no test.
+        // Tests are words of a line. With a leading zero a word is no test.
         (
             "mkdir size>=0;rmdir size<12;axiom size>=1 b;mkdir size>=01;",
             99,
@@ -109,7 +109,7 @@ fn note(row: &mut String, item: &Item, payload: &Payload) -> Result<(), AllocErr
     }
 }
 
-// What it takes to read an input, and what was seen of it.
+// What is needed to read an input, and what was seen of it.
 #[derive(Drop)]
 struct Reading {
     reader: LineReader,

@@ -1,4 +1,4 @@
-//! Mails and the words that they give, as another program that was written apart from this one computed them.
+//! Mails and the words that they give, as another program computed them that was written separately.
 
 use crate::derive::{fields, spaced};
 use lis_mail::mail_props;
@@ -12,7 +12,7 @@ fn words_of(alloc: Global, mail: &[u8]) -> Result<Vec<u8>, AllocError> {
     spaced(alloc, out.as_slice())
 }
 
-/// Each mail behind a `|`, and its words behind a `$`.
+/// Each mail after a `|`, and its words after a `$`.
 fn mails() -> &'static [u8] {
     b"\
 |From: Alice <alice@example.org>\nTo: bob@example.org,\n Carol <carol@example.org>\nSubject: Re: Lunch plan\n\nSee you.\n$from:alice@example.org to:bob@example.org to:carol@example.org subject:re subject:lunch subject:plan\

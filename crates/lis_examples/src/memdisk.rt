@@ -8,7 +8,7 @@ use std::alloc::Global;
 use std::fs::{self, File, OpenOptions};
 use std::test::Fail;
 
-// A station over a file whose length it tells as nine bytes. Nothing was shown.
+// A station over a file, whose length it reports as nine bytes. Nothing was shown.
 fn station_over(alloc: Global, file: File) -> FileStation<Vec<u8>>
     ensures { result.len ≡ 9 }
 {
@@ -23,7 +23,7 @@ fn station_over(alloc: Global, file: File) -> FileStation<Vec<u8>>
     }
 }
 
-// Writes two bytes, and reads them with those beside them.
+// Writes two bytes, and reads them with the bytes next to them.
 fn write_and_read<D: Disk>(disk: &mut D, buf: &mut [u8; 4]) -> Result<(), Failed>
     requires { 9 ≤ (D.meaning disk.old).len }
     ensures { (D.meaning disk.new).len ≡ (D.meaning disk.old).len }

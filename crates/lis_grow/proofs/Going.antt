@@ -1,4 +1,4 @@
--- Items that are carried out with nothing shown: on the way, and their sum.
+-- Items that are run with nothing shown: in progress, and their sum.
 use Rattle.std.proofs.Common.{◌≡◌, ℕ, ◌+◌, ◌≤◌, Bool, cond, true, false, List, [], ◌∷◌, ◌++◌, length, Option, Some, None, Result, Ok, Err, refl, ap, sym, subst, ◌∙◌, arith, inl, inr, length-append}
 use Rattle.std.specs.Option.{IfSome}
 use Rattle.lis_ports.specs.Meaning.{Meaning}
@@ -29,7 +29,7 @@ use Rattle.lis_grow.specs.Session.{refusals, listings, StandsAmong, Summed}
 use Rattle.lis_grow.specs.Summing.{Sums, SumsInto}
 use Rattle.lis_journal.specs.Journal.{shape_of}
 
--- ---- one item more
+-- ---- one more item
 abbrev refusal_count : Situation → Item → ℕ
 refusal_count now item = cond (is_refusal (step now item).reply) 1 0
 
@@ -128,7 +128,7 @@ pub record Called {T : Type 0} (now next : Situated) (mid m : Meaning) (result :
   pub disk : UsesDisk mid m result
 
 module _ {start now next : Situated} {entry mid m : Meaning} {first : List Item} {sum : Sum} {Same : Type 0} (done : Sums start entry first now sum mid) (same : Same) where
-  -- the item at the place where the first ones led
+  -- the item at the place to which the first ones led
   next_here : (item : Item) (result : Result Tally Failed) (state : State) → FitsAt (StoreFits start.store entry) entry state
       → TalliesItem (StoreFits now.store mid) now.place mid m result (StoreFits next.store m) next.place item
       → Next (situation_at start state) first item entry mid m (StoreFits now.store mid) (StoreFits next.store m) next.place result
@@ -137,7 +137,7 @@ module _ {start now next : Situated} {entry mid m : Meaning} {first : List Item}
       subst (λ p. Tallied (record { state = last.state; place = p }) (step (record { state = last.state; place = p }) item) (listed (record { state = last.state; place = p }) item) mid m result (StoreFits next.store m) next.place)
       (done.at state fitting) (tallies last.state (done.summed state fitting).ended.fitting)
 
-  -- it was carried out
+  -- it was run
   pub sums_more : (asked : Option Item) (tally : Tally) (after : Sum) → Called {T = Tally} now next mid m (Ok tally) → next.store.is_broken ≡ false
       → IfSome asked (TalliesItem (StoreFits now.store mid) now.place mid m (Ok tally) (StoreFits next.store m) next.place) → AddsTo tally sum after
       → IfSome asked (λ item. Sums start entry (first ++ item ∷ []) next after m × Same)
@@ -158,7 +158,7 @@ module _ {start now next : Situated} {entry mid m : Meaning} {first : List Item}
     same,
   )
 
-  -- a call of the disk failed in it
+  -- a disk call failed in it
   pub sums_into : (asked : Option Item) (failed : Failed) → Called {T = Tally} now next mid m (Err failed)
       → IfSome asked (TalliesItem (StoreFits now.store mid) now.place mid m (Err failed) (StoreFits next.store m) next.place)
       → IfSome asked (λ item. SumsInto start entry first item next m × Same)
@@ -183,7 +183,7 @@ one_at_most true = omega arith
 one_at_most false = omega arith
 
 -- ---- how it ends
--- the input is short, so that its items are all that are whole within its limit
+-- the input is short, so its items are all that are whole within its limit
 pub never_past : {limit : ℕ} {told : List ℕ} {carried : List Item → Type 0} → length told ≤ limit → Went (Some told) carried (λ known first. LimitTaken session_cut limit known first) → ⊥
 never_past {told = told} short went = omega (arith, short, (went.read told refl).long)
 

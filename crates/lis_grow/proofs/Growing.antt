@@ -57,7 +57,7 @@ last_moment start items image shown stands begins = record {
   quiet = λ less. absurd (omega (arith, less));
 }
 
--- before anything was carried out
+-- before anything was run
 pub grow_none : (start : Situation) (items : List Item) (image : List ℕ) → Stands image start.state → GrowMoment start items image []
 grow_none start items image stands = record {
   count = 0;
@@ -67,7 +67,7 @@ grow_none start items image stands = record {
   quiet = λ less. refl;
 }
 
--- a fault of the disk
+-- a disk fault
 pub grows_broke : {old mid : Meaning} {fits : State → Type 0} (start : Situation) (items : List Item) (failed : Failed) → Summed start items old mid (Err failed) fits
     → Grows start items old mid (GrowEnded start items old.shown mid (Err DiskFault))
 grows_broke {old} {mid} start items failed summed = record {
@@ -76,7 +76,7 @@ grows_broke {old} {mid} start items failed summed = record {
   ended = summed.moments.run.shown;
 }
 
--- all items were carried out, and the summary was shown, or a front of it
+-- all items were run, and the summary was shown, or a prefix of it
 module _ {old mid : Meaning} {fits : State → Type 0} (start : Situation) (items : List Item) (sum : Sum) (summed : Summed start items old mid (Ok sum) fits) where
   ended_all : (new : Meaning) (result : Result (Unit {0}) End) → Answers mid new (summary start items) result → GrowEnded start items old.shown new result
   ended_all new (Ok u) answers = record {

@@ -1,4 +1,4 @@
--- Bytes given out of a piece.
+-- Bytes given from a piece.
 use Rattle.std.proofs.Common.{◌≡◌, ℕ, ◌+◌, ◌-◌, ◌≤◌, min, List, ◌++◌, length, take, drop, sym, ◌∙◌, ap, arith, length-drop}
 use Rattle.std.proofs.lemmas.List.{take_at, drop-drop, take-append-drop, length-take-le}
 

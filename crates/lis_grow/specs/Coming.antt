@@ -25,7 +25,7 @@ year_from x = line (codes "mkdir year:") ++ axioms_from x 1
 unfoldable pub groups_from : ℕ → ℕ → List ℕ
 groups_from x i = lines_from mkdir_line i 16 ++ year_from x
 
--- what comes from a phase on, where the generator stands at x
+-- what comes from a phase on, if the generator has the value x
 abbrev pub coming : ℕ → Phase → List ℕ
 coming x (Groups i) = groups_from x i
 coming x (Axioms i) = axioms_from x i
@@ -33,7 +33,7 @@ coming x (Files i) = all_files_from x i
 coming x (Removals i) = removals_from i
 coming x Nothing = []
 
--- more than how many steps there are to come
+-- an upper bound on the steps that are left
 abbrev pub steps_left : Phase → ℕ
 steps_left (Groups i) = (2 * file_count + 99) + (16 - i)
 steps_left (Axioms i) = (2 * file_count + 50) + (16 - i)

@@ -1,4 +1,4 @@
--- A large session that is made of a number.
+-- A large session that is made from a number.
 use Rattle.std.specs.Prelude.{ℕ, zero, suc, ◌+◌, ◌-◌, ◌*◌, ◌/◌, ◌%◌, ◌^◌, ◌==◌, if◌then◌else◌, List, [], ◌++◌, codes}
 use Rattle.std.specs.List.{flat_map, range_with_len}
 use Rattle.lis_model.specs.Replies.{line, two_digits}
@@ -21,7 +21,7 @@ first_year = 2000
 abbrev pub file_count : ℕ
 file_count = 1000
 
--- Where the generator stands after a draw. The draw gives a part of it, without the lowest bits.
+-- The value of the generator after a draw. The draw gives a part of the value, without the lowest bits.
 abbrev pub drawn : ℕ → ℕ
 drawn x = (multiplier * x + increment) % 2 ^ 31
 
@@ -55,12 +55,12 @@ add_lines i v = line (codes "add f" ++ four_digits i ++ codes ".c 20 " ++ file_w
 abbrev pub file_lines : ℕ → ℕ → List ℕ
 file_lines i v = if i % 10 == 0 then add_lines i v else create_line i v
 
--- so many files from number i on, where the generator stands at x
+-- this many files from number i on, if the generator has the value x
 abbrev pub files_from : ℕ → ℕ → ℕ → List ℕ
 files_from zero i x = []
 files_from (suc count) i x = file_lines i (draw_of (drawn x)) ++ files_from count (i + 1) (drawn x)
 
--- of five files one is removed
+-- one of five files is removed
 abbrev pub rm_lines : ℕ → List ℕ
 rm_lines i = if i % 5 == 3 then line (codes "rm f" ++ four_digits i ++ codes ".txt") else []
 

@@ -1,4 +1,4 @@
--- Carrying out the session that is made of a number, and showing its summary.
+-- Running the session that is made from a number, and showing its summary.
 use Rattle.std.specs.Prelude.{◌≡◌, ℕ, ◌+◌, ◌≤◌, ◌<◌, if◌then◌else◌, List, [], ◌∷◌, length, Option, Result, Ok, Err, IfOk}
 use Rattle.std.specs.Io.KnownBytes.{append_known}
 use Rattle.lis_ports.specs.Meaning.{Meaning}
@@ -42,27 +42,27 @@ summary_in last replies refused lines = summary_text replies refused (length las
 abbrev pub summary : Situation → List Item → List ℕ
 summary start items = summary_in (situation_after start items).state (length items) (refusals start items) (listings start items)
 
--- The image stands for the state after some first items.
+-- The image represents the state after some first items.
 pub record StandsAmong (start : Situation) (items : List Item) (image : List ℕ) : Type 0 where
   pub count : ℕ
   pub within : count ≤ length items
   pub stands : Stands image (state_after step start items count)
 
--- all items were carried out, with nothing shown, and this is their sum
+-- all items were run, with nothing shown, and this is their sum
 pub record SummedAll (start : Situation) (items : List Item) (new : Meaning) (fits : State → Type 0) (sum : Sum) : Type 0 where
   pub fitting : FitsAt fits new (situation_after start items).state
   pub replies : sum.replies ≡ length items
   pub refused : sum.refused ≡ refusals start items
   pub listed : sum.listed ≡ listings start items
 
--- Items carried out, with nothing shown: their moments, that the blocks past the image stay, and their sum.
+-- Items run with nothing shown: their moments, that the blocks past the image stay, and their sum.
 pub record Summed (start : Situation) (items : List Item) (old new : Meaning) (result : Result Sum Failed) (fits : State → Type 0) : Type 0 where
   pub moments : Leaves old new (StandsAmong start items)
   pub past : KeepsPast (image_blocks start.state.limits) old new
   pub ended : IfOk result (SummedAll start items new fits)
 
--- A moment of the session: the image stands for the state after some first items, and what was shown is a front of the summary: nothing
--- before all items were carried out.
+-- A moment of the session: the image represents the state after some first items, and what was shown is a prefix of the summary. Nothing is
+-- shown before all items were run.
 pub record GrowMoment (start : Situation) (items : List Item) (image shown : List ℕ) : Type 0 where
   pub count : ℕ
   pub within : count ≤ length items
@@ -70,13 +70,13 @@ pub record GrowMoment (start : Situation) (items : List Item) (image shown : Lis
   pub front : Begins shown (summary start items)
   pub quiet : count < length items → shown ≡ []
 
--- all items were carried out, and so much was shown
+-- all items were run, and these bytes were shown
 pub record GrewAll (start : Situation) (items : List Item) (before : Option (List ℕ)) (new : Meaning) (bytes : List ℕ) : Type 0 where
   pub shown : new.shown ≡ append_known before bytes
   pub stands : Always new (λ image. Stands image (situation_after start items).state)
 
--- How it ended: the summary was shown whole; or a front of it, at a fault of showing; or nothing was, at a fault of the disk, and the moments
--- tell what stands.
+-- How it ended: the whole summary was shown; or, at a show fault, a prefix of it; or nothing, at a disk fault, after which only the moments
+-- say what is on the disk.
 abbrev pub GrowEnded : Situation → List Item → Option (List ℕ) → Meaning → Result (Unit {0}) End → Type 0
 GrowEnded start items before new (Ok done) = GrewAll start items before new (summary start items)
 GrowEnded start items before new (Err OutputFault) = (shown : List ℕ) × Begins shown (summary start items) × GrewAll start items before new shown

@@ -1,5 +1,5 @@
--- A session that is carried out with nothing shown: what it has come to since a start, and the sum of its replies.
--- No public clause cites this module.
+-- A session that is run with nothing shown: what it has become since a start, and the sum of its replies. No public clause cites this
+-- module.
 use Rattle.std.specs.Prelude.{◌≡◌, ℕ, ◌+◌, ◌*◌, ◌^◌, ◌<◌, List, [], ◌∷◌, ◌++◌, Result, Ok, Err, IfOk, false}
 use Rattle.lis_limits.specs.declared.TheConstants.{MAX_FILES, MAX_PROPS}
 use Rattle.lis_ports.specs.Meaning.{Meaning}
@@ -15,7 +15,7 @@ use Rattle.lis_grow.specs.Session.{Summed}
 use Rattle.lis_grow.specs.declared.summary.Sum.{Sum}
 use Rattle.lis_journal.specs.Journal.{shape_of}
 
--- The session can be carried on, and so many replies more can be summed: none lists more than 12,288 words and files.
+-- The session can continue, and this many more replies can be summed: none lists more than 12,288 words and files.
 pub record CanSum (session : Situated) (sum : Sum) (m : Meaning) (more : ℕ) : Type 0 where
   pub sound : IsSound session.store
   pub usable : IsUsable session.store m
@@ -23,7 +23,7 @@ pub record CanSum (session : Situated) (sum : Sum) (m : Meaning) (more : ℕ) : 
   pub refused : sum.refused + more < 2 ^ 32
   pub listed : sum.listed + (MAX_FILES + MAX_PROPS) * more < 2 ^ 64
 
--- Since the start these items were carried out, from any state that fitted then; or all but the last one, where a call of the disk failed.
+-- Since the start these items were run, from any state that fitted then; or all but the last one, in which a disk call failed.
 pub record SumsTo (start : Situated) (entry : Meaning) (items : List Item) (now : Situated) (m : Meaning) (result : Result Sum Failed) : Type 0 where
   pub limits : now.store.metadata.limits ≡ start.store.metadata.limits
   pub image : shape_of now.store.journal ≡ shape_of start.store.journal

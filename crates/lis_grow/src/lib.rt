@@ -1,4 +1,4 @@
-//! A large session made of a number: as a source of its bytes, and carried out, with a summary.
+//! A large session made from a number: as a source of its bytes, and run, with a summary.
 #![tactic(auto)]
 
 mod lines;

@@ -38,7 +38,7 @@ pub fn axiom_line(i: u32) -> Piece
     piece
 }
 
-/// Puts the words of a file, by a draw.
+/// Appends the words of a file, by a draw.
 fn put_words(piece: &mut Piece, draw: u32)
     requires { length piece.old + 13 ≤ 80 }
     ensures bytes { piece.new ≡ piece.old ++ file_words draw }
@@ -89,7 +89,7 @@ pub fn file_lines(i: u32, draw: u32) -> Piece
     create_line(i, draw)
 }
 
-/// Of five files one is removed; for the others there is no line.
+/// The line that removes a file. One of five files is removed; for the others there is no line.
 pub fn rm_lines(i: u32) -> Piece
     requires { i < file_count }
     ensures { result ≡ rm_lines i }

@@ -23,7 +23,7 @@ pub enum Phase {
     Nothing,
 }
 
-/// Some bytes, the phase that follows them, and where the generator stands there.
+/// Some bytes, the phase that follows them, and the value of the generator there.
 #[derive(Drop)]
 pub struct Step {
     pub piece: Piece,

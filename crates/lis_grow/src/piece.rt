@@ -1,4 +1,4 @@
-//! The bytes of a line or two, put together in place.
+//! The bytes of a line or two, put together in one buffer.
 
 ghost use Rattle.std.specs.Prelude.{◌≡◌, ℕ, ◌+◌, ◌<◌, ◌≤◌, List, [], ◌++◌, length, ◌^◌};
 ghost use Rattle.lis_model.specs.Replies.{two_digits};
@@ -40,7 +40,7 @@ impl Piece {
         self.held.try_extend_from_slice(text).unwrap();
     }
 
-    /// Puts a number of two digits.
+    /// Appends a number of two digits.
     pub fn put_two(&mut self, n: u32)
         requires below { n < 10 ^ 2 }
         requires room { length self.old + 2 ≤ 80 }
@@ -52,7 +52,7 @@ impl Piece {
         self.put(&[tens, ones]);
     }
 
-    /// Puts a number of four digits.
+    /// Appends a number of four digits.
     pub fn put_four(&mut self, n: u32)
         requires below { n < 10 ^ 4 }
         requires room { length self.old + 4 ≤ 80 }

@@ -1,4 +1,4 @@
-//! The session carried out.
+//! Running the session.
 
 ghost use Rattle.std.specs.Prelude.{◌≡◌, false, IfOk};
 ghost use Rattle.lis_ports.specs.Runs.{IsDiskRun};
@@ -18,10 +18,10 @@ use lis_ports::{Failed, Station};
 use lis_session::end::End;
 use lis_session::session::Session;
 
-/// A session has fewer bytes.
+/// A session has fewer bytes than this.
 const LIMIT: u64 = 1 << 17;
 
-// Carries out all items, and shows nothing.
+// Runs all items, and shows nothing.
 fn carry_out<T: Station>(
     session: &mut Session,
     payload: &mut Payload,
@@ -52,10 +52,10 @@ fn carry_out<T: Station>(
     }
 }
 
-/// Carries out the session that is made of the number, and shows its summary in place of the replies. It takes no memory.
+/// Runs the session that is made from the number, and shows its summary instead of the replies. It allocates no memory.
 ///
-/// Stopped at any moment, the image stands for the state after some first items, and what was shown is a front of the summary, which is
-/// begun once all items were carried out.
+/// At any moment the image represents the state after some first items, and what was shown is a prefix of the summary. The summary begins
+/// only after all items were run.
 pub fn grow_session<T: Station>(
     session: &mut Session,
     payload: &mut Payload,

@@ -8,7 +8,7 @@ use crate::piece::Piece;
 use lis_ports::{Failed, Source};
 use std::marker::Model;
 
-/// Gives bytes of the piece at hand, from a place on, and answers how many.
+/// Gives bytes of the current piece, from an offset on, and returns how many.
 fn give(piece: &Piece, place: usize, buf: &mut [u8]) -> usize
     requires { place ≤ length piece.now }
     ensures count { result ≡ min (length buf.old) (length piece.now - place) }
@@ -21,7 +21,7 @@ fn give(piece: &Piece, place: usize, buf: &mut [u8]) -> usize
     count
 }
 
-/// A source of the session that is made of a number. No call of it fails, and none takes memory.
+/// A source of the session that is made from a number. No call of it fails, and none allocates memory.
 #[derive(Drop)]
 pub struct GrowSource {
     step: Step,

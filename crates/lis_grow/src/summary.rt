@@ -1,4 +1,4 @@
-//! What a session comes to, and how it is shown.
+//! The summary of a session, and how it is shown.
 
 ghost use Rattle.std.specs.Prelude.{◌≡◌, ◌+◌, ◌<◌, ◌^◌, if◌then◌else◌, ◌++◌};
 ghost use Rattle.lis_model.specs.Replies.{number_line};
@@ -31,7 +31,7 @@ impl Sum {
         }
     }
 
-    /// Counts one reply more.
+    /// Counts one more reply.
     pub fn add(&mut self, tally: &Tally)
         requires replies { self.old.replies < 2 ^ 32 }
         requires refused { self.old.refused < 2 ^ 32 }
@@ -46,7 +46,7 @@ impl Sum {
     }
 }
 
-// Shows how many there are of what the label names.
+// Shows how many things there are of the kind that the label names.
 fn show_count<T: Station>(station: &mut T, label: &[u8], count: u64) -> Result<(), End>
     ensures { Answers (T.meaning station.old) (T.meaning station.new) (number_line label.now count) result }
 {
@@ -54,7 +54,7 @@ fn show_count<T: Station>(station: &mut T, label: &[u8], count: u64) -> Result<(
     Ok(())
 }
 
-// The same of two labels, a line each.
+// The same for two labels, a line each.
 fn show_two<T: Station>(
     station: &mut T,
     label: &[u8],
@@ -68,7 +68,7 @@ fn show_two<T: Station>(
     show_count(station, next, more)
 }
 
-/// Shows the summary of a session that ended where there is so much.
+/// Shows the summary of a session that ended with these counts.
 pub fn show_summary<T: Station>(station: &mut T, sum: &Sum, last: &Counts) -> Result<(), End>
     ensures { Answers (T.meaning station.old) (T.meaning station.new)
         (summary_text sum.now.replies sum.now.refused last.now.files last.now.axioms last.now.free sum.now.listed) result }

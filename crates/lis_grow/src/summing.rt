@@ -9,7 +9,7 @@ use lis_line::reader::{Item, Payload};
 use lis_ports::{Failed, Station};
 use lis_session::session::Session;
 
-/// A session that is carried out, and what its replies come to.
+/// A session that is being run, and the sum of its replies.
 #[derive(Drop)]
 pub(crate) struct Summing<'a> {
     pub(crate) session: &'a mut Session,

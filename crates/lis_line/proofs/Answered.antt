@@ -1,4 +1,4 @@
--- What each answer of the reader says of the script.
+-- What each result of the reader says of the script.
 use Rattle.std.proofs.Common.{◌≡◌, ◌⊎◌, ℕ, ◌+◌, ◌≤◌, ◌<◌, true, false, List, [], ◌∷◌, ◌++◌, length, take, Option, Some, Result, Ok, Err, ap, sym, subst, ◌∙◌, inl, inr, arith, append_assoc, append-nil, length-append}
 use Rattle.std.specs.Io.KnownBytes.{prepend_known, Consumes, IsAtEnd}
 use Rattle.std.proofs.Math.Seq.{take-append_seam}
@@ -12,7 +12,7 @@ use Rattle.lis_line.specs.Reading.{Reading, IsWhole, Gave, GaveWhole, GaveLast, 
 use Rattle.lis_line.proofs.Bytes.{consumes_then}
 use Rattle.lis_line.proofs.Given.{AreGiven, ReadSoFar, read_item, few_so_far, few_gave, known_split, input_is, script_short, script_long, stream_taken}
 
--- an item more was read
+-- one more item was read
 pub item_taken : {I E : Type 0} {cut : Cut I} {limit : ℕ} {left_before left left_after : Option (List ℕ)} {old new : Reading} {first : List I} {item : I}
     → ReadSoFar cut limit left_before left old first → Says {E = E} cut old new left left_after (Ok (Item item)) → length new.stock.ahead ≤ new.stock.rest
     → ReadSoFar cut limit left_before left_after new (first ++ item ∷ [])
@@ -91,7 +91,7 @@ whole_taken {cut = cut} {limit} {input} {left} {left_after} {old} {new} {first} 
     by (inl going) = opened going.1 (says.gives going.0).0
     by (inr closed) = let ends = (says.closes closed.0).ends in absurd (cc)
 
--- whatever a reader says, it gave some bytes
+-- whatever a reader returns, it gave some bytes
 bytes_given : {I E : Type 0} (cut : Cut I) (old new : Reading) (left left_after : Option (List ℕ)) (told : Result (Next I) E) → Gives cut old new left left_after told
     → (bytes : List ℕ) × Gave old.stock new.stock left left_after bytes
 bytes_given cut old new left left_after (Ok (Item item)) gives = by gives.1
@@ -104,7 +104,7 @@ bytes_given cut old new left left_after (Ok End) gives = (gives.0.bytes, gives.0
 bytes_given cut old new left left_after (Ok Limit) gives = (gives.0.bytes ++ gives.0.byte ∷ [], gives.0.gave)
 bytes_given cut old new left left_after (Err failed) gives = (gives.0.bytes, gives.0.gave)
 
--- few bytes were taken, whatever was said
+-- few bytes were taken, whatever was returned
 pub few_said : {I E : Type 0} {cut : Cut I} {limit : ℕ} {left_before left left_after : Option (List ℕ)} {old new : Reading} {first : List I} {told : Result (Next I) E}
     → ReadSoFar cut limit left_before left old first → Says cut old new left left_after told → length new.stock.ahead ≤ new.stock.rest → TakesFew limit left_before left_after
 few_said {cut = cut} {limit} {left_before} {left} {left_after} {old} {new} {first} {told} read says few = by read.is

@@ -1,4 +1,4 @@
--- Segments taken one after another, up to the first that asks for something.
+-- Segments taken one after another, up to the first one that requests something.
 use Rattle.std.proofs.Common.{◌≡◌, ℕ, ◌<◌, true, false, cond, List, [], ◌∷◌, ◌++◌, length, Option, Some, None, Result, Ok, Err, ap, sym, subst, ◌∙◌, refl, arith, append_assoc, append-nil, length-append}
 use Rattle.std.specs.Option.{option_map, option_to_list}
 use Rattle.lis_ports.specs.declared.disk.Failed.{Failed}
@@ -119,7 +119,7 @@ module _ {I : Type 0} {cut : Cut I} {first : List ℕ → FirstOf I} (cuts : Cut
         at_end = reads.4;
       })
 
-  -- the byte past the limit, or a fault, inside of a line
+  -- the byte past the limit, or a fault, inside a line
   pub past_given : {old new : Stocked} {left_before left : Option (List ℕ)} {kept : List ℕ} → ReadsLine {E = Failed} old new left_before left kept (Ok Spent) → Overran cut old new left_before left
   past_given {old} {new} {left_before} {left} {kept} reads = record {
     bytes = reads.0;
@@ -138,7 +138,7 @@ module _ {I : Type 0} {cut : Cut I} {first : List ℕ → FirstOf I} (cuts : Cut
     nothing_ahead = reads.3;
   }
 
--- ---- behind segments that ask for nothing
+-- ---- after segments that request nothing
 pub whole_then : {I : Type 0} {cut : Cut I} {bytes more : List ℕ} {items others : List I} → IsWhole cut bytes items → IsWhole cut more others
     → IsWhole cut (bytes ++ more) (items ++ others)
 whole_then {cut = cut} {bytes} {more} {items} {others} are then = record {

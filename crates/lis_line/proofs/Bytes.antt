@@ -22,13 +22,13 @@ consumes_then (Some zs) (Some bs) (Some cs) xs ys p q =
     let next : bs ≡ ys ++ cs = q in
     first ∙ ap (λ rest. xs ++ rest) next ∙ sym (append_assoc xs ys cs)
 
--- nothing was ahead before, and nothing is now: the stream is what the source has left
+-- nothing was ahead before, and nothing is ahead now: the stream is what the source has left
 pub consumes_kept : (a b : Option (List ℕ)) → Keeps a b → Consumes (prepend_known [] a) (prepend_known [] b) []
 consumes_kept None b k = tt
 consumes_kept (Some zs) None k = absurd k
 consumes_kept (Some zs) (Some bs) k = let e : bs ≡ zs = k in sym e
 
--- what is ahead once so many bytes of it were given
+-- what is ahead after this many bytes of it were given
 pub rest_ahead : (start count end : ℕ) (buf : List ℕ) → count ≤ end - start → take (end - (start + count)) (drop (start + count) buf) ≡ drop count (take (end - start) (drop start buf))
 rest_ahead start count end buf within =
     let sum : end - start ≡ count + (end - (start + count)) = omega (arith, within) in
@@ -54,7 +54,7 @@ gave_stopped old now next left_before left left_after bytes gave none none_now k
     subst (λ xs. Gave old next left_before left_after xs) (append-nil bytes)
     (gave_then old now next left_before left left_after bytes [] gave (record { took = none_took; rest = omega (arith, rest) }))
 
--- what stands while a line is read
+-- what holds while a line is read
 pub record Going (old now : Stocked) (left_before left : Option (List ℕ)) (line : List ℕ) : Type 0 where
   pub text : List ℕ
   pub taken : LineTaken old now left_before left line text text
@@ -86,7 +86,7 @@ kept_full line text b is full =
     let long : 1025 ≤ length text = omega (arith, ap length is, length-take 1025 text) in
     is ∙ sym (take-append-le 1025 text (b ∷ []) long)
 
--- one byte more of the line
+-- one more byte of the line
 taken_more : (old now next : Stocked) (left_before left left_after : Option (List ℕ)) (line longer text : List ℕ) (b : ℕ)
     → LineTaken old now left_before left line text text → Consumes (stream_of now left) (stream_of next left_after) (b ∷ [])
     → next.rest + 1 ≡ now.rest → (b ≡ 10 → ⊥) → longer ≡ take 1025 (text ++ b ∷ [])

@@ -69,7 +69,7 @@ few_taken limit left_before left ahead bytes rest took sum few = record {
   few = omega (arith, sum, few, length-append bytes ahead);
 }
 
--- a known input, split where the reader stands
+-- a known input, split where the reader is
 pub known_split : (input : List ℕ) (left : Option (List ℕ)) (ahead bytes : List ℕ) → Consumes (Some input) (prepend_known ahead left) bytes
     → (rest : List ℕ) × (left ≡ Some rest) × (input ≡ bytes ++ (ahead ++ rest))
 known_split input None ahead bytes took = absurd took
@@ -106,7 +106,7 @@ module _ {I : Type 0} {cut : Cut I} {limit : ℕ} {left_before left : Option (Li
       (consumes_then left_before (stream_of old.stock left) _ read.bytes more read.took gave.took)
       (omega (arith, read.rest, gave.rest, length-append read.bytes more)) few
 
-  -- an item more
+  -- one more item
   read_more : (new : Reading) (left_after : Option (List ℕ)) (item : I) (bytes : List ℕ) → Gave old.stock new.stock left left_after bytes → 0 < length bytes → 0 < new.stock.rest
       → new.is_ended ≡ false → length new.stock.ahead ≤ new.stock.rest → AreGiven cut (read.bytes ++ bytes) (first ++ item ∷ []) new left_after
       → ReadSoFar cut limit left_before left_after new (first ++ item ∷ [])

@@ -1,4 +1,4 @@
--- The next item where one lies whole in what was taken, and nothing more is.
+-- The next item, if one is complete in what was taken and the source has nothing more.
 use Rattle.std.proofs.Common.{◌≡◌, ◌⊎◌, ℕ, Bool, true, false, List, [], ◌∷◌, ◌++◌, Option, Some, None, Result, Ok, Err, ap, sym, ◌∙◌, refl, inl, inr, append_assoc, append-nil}
 use Rattle.std.specs.Io.KnownBytes.{prepend_known, Consumes}
 use Rattle.std.specs.Bool.{IsTrue}
@@ -8,7 +8,7 @@ use Rattle.lis_line.specs.declared.reader.Next.TheVariants.{Item, End, Limit}
 use Rattle.lis_line.specs.Stock.{Stocked}
 use Rattle.lis_line.specs.Reading.{Reading, Gave, GaveWhole, GaveLast, GaveEnd, GaveRest, Gives, Says, LiesWhole}
 
--- where an item lies whole in bytes, they are not without items
+-- if an item is complete in some bytes, the bytes have items
 lies_some : {I : Type 0} (items : List ℕ → List I) (item : I) (others : List I) (bytes front rest : List ℕ) → bytes ≡ front ++ rest → items (front ++ rest) ≡ item ∷ others → items bytes ≡ [] → ⊥
 lies_some items item others bytes front rest is some none =
     let no : [] ≡ item ∷ others = sym none ∙ ap items is ∙ some in
@@ -20,7 +20,7 @@ all_some {cut = cut} {bytes} lies = lies_some cut.all lies.item (cut.all lies.re
 whole_some : {I : Type 0} {cut : Cut I} {bytes : List ℕ} → LiesWhole cut bytes → cut.whole bytes ≡ [] → ⊥
 whole_some {cut = cut} {bytes} lies = lies_some cut.whole lies.item (cut.whole lies.rest) bytes lies.front lies.rest lies.is (lies.whole.whole lies.rest)
 
--- what was given where nothing more is: bytes that were ahead
+-- what was given if the source has nothing more: bytes that were ahead
 given_ahead : {old new : Stocked} {bytes : List ℕ} → Gave old new (Some []) (Some []) bytes → old.ahead ≡ bytes ++ new.ahead
 given_ahead {old} {new} {bytes} gave =
     let took : old.ahead ++ [] ≡ bytes ++ (new.ahead ++ []) = gave.took in
@@ -69,7 +69,7 @@ module _ {I : Type 0} {cut : Cut I} (old new : Reading) (lies : LiesWhole cut ol
   pub says_ahead : {E : Type 0} (left : Option (List ℕ)) (answer : Result (Next I) E) → old.is_closed ≡ false → Says cut old new (Some []) (Some []) answer → Says cut old new left left answer
   says_ahead left answer opened says = record { gives = λ _. gives_ahead left answer (says.gives opened); closes = λ closed. absurd (cc) }
 
--- where the answer was the end or a fault, no item lay whole
+-- if the result was the end or a fault, no item was complete
 pub not_true : (b : Bool) → (IsTrue b → ⊥) → b ≡ false
 not_true true never = absurd (never refl)
 not_true false _ = refl

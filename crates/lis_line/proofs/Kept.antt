@@ -1,4 +1,4 @@
--- Of a long line its first bytes tell as much.
+-- The first bytes of a long line say as much as the whole line.
 use Rattle.std.proofs.Common.{◌≡◌, ℕ, ◌<◌, true, false, List, [], ◌∷◌, ◌++◌, length, take, zero, suc, Option, Some, None, ap, sym, subst, ◌∙◌, refl, inl, inr, arith}
 use Rattle.std.proofs.lemmas.Grind.{common_steps}
 use Rattle.std.proofs.lemmas.List.{take_all, length-take}
@@ -10,13 +10,14 @@ use Rattle.lis_model.specs.Script.{FirstOf, is_long, item_of, payload_size, firs
 use Rattle.lis_line.specs.Stock.{Stocked, LineTaken}
 use Rattle.lis_model.proofs.Lines.{IsOneLine, line_alone, last_alone, last_with, with_cut}
 
--- Segments begin with a line: of a long line the first 1,025 bytes tell as much, and an input without a line feed is one segment, the last.
+-- Segments begin with a line: the first 1,025 bytes of a long line say as much as the whole line, and an input without a line feed is one
+-- segment, the last.
 pub record ByLines {I : Type 0} (first : List ℕ → FirstOf I) : Type 0 where
   pub none : first [] ≡ record { item = None; rest = []; is_whole = false }
   pub last : (text : List ℕ) → IsOneLine text → first text ≡ record { item = (first (take 1025 text)).item; rest = []; is_whole = false }
   pub kept : (text more : List ℕ) → IsOneLine text → first (text ++ 10 ∷ more) ≡ first (take 1025 text ++ 10 ∷ more)
 
--- a front of one line is one line
+-- a prefix of one line is one line
 pub one_line_front : (n : ℕ) (text : List ℕ) → IsOneLine text → IsOneLine (take n text)
 one_line_front zero text one = refl
 one_line_front (suc n) [] one = refl
@@ -29,12 +30,12 @@ front_long text long = le-leb 1025 (length (take 1025 text)) (omega (arith, long
 pub kept_one_line : {old new : Stocked} {left_before left : Option (List ℕ)} {line kept text bytes : List ℕ} → line ≡ kept → LineTaken old new left_before left kept text bytes → IsOneLine line
 kept_one_line {text = text} is taken = subst IsOneLine (sym (is ∙ taken.kept)) (one_line_front 1025 text taken.one_line)
 
--- what a last segment asks for, by the segment itself
+-- what a last segment requests, by the segment itself
 pub by_itself : {I : Type 0} (first : FirstOf I) (item : Option I) → first ≡ record { item = item; rest = []; is_whole = false }
     → first ≡ record { item = first.item; rest = []; is_whole = false }
 by_itself {I} first item is = is ∙ ap (λ asked. record { item = asked; rest = []; is_whole = false }) (sym (ap (λ (f : FirstOf I). f.item) is))
 
--- segments whose long lines all ask for the same
+-- segments whose long lines all request the same
 pub by_lines : {I : Type 0} (first : List ℕ → FirstOf I) (long : Option I)
     → first [] ≡ record { item = None; rest = []; is_whole = false }
     → ((text : List ℕ) → IsOneLine text → first text ≡ record { item = (first text).item; rest = []; is_whole = false })

@@ -1,4 +1,4 @@
--- The bytes of a payload, taken by runs.
+-- The bytes of a payload, taken in runs.
 use Rattle.std.proofs.Common.{◌≡◌, ℕ, ◌+◌, ◌-◌, ◌≤◌, ◌<◌, List, [], ◌∷◌, ◌++◌, length, take, drop, Option, Some, None, ap, sym, subst, ◌∙◌, refl, arith, append_assoc, length-append, inl, inr}
 use Rattle.std.specs.Io.KnownBytes.{Consumes}
 use Rattle.std.proofs.lemmas.List.{take-append-drop, length-take}
@@ -16,7 +16,7 @@ skipped now next None count behind = tt
 skipped now next (Some more) count behind =
     sym (ap (λ xs. take count now.ahead ++ (xs ++ more)) behind ∙ sym (append_assoc (take count now.ahead) (drop count now.ahead) more) ∙ ap (λ xs. xs ++ more) (take-append-drop count now.ahead))
 
--- a run of those that a stock met
+-- a run of the bytes that a stock has ahead
 pub run_given : (old now next : Stocked) (left_before left : Option (List ℕ)) (count : ℕ) → Consumes (stream_of old left_before) (stream_of now left) [] → now.rest ≡ old.rest
     → count ≤ length now.ahead → next.ahead ≡ drop count now.ahead → count + next.rest ≡ now.rest → Gave old next left_before left (take count now.ahead)
 run_given old now next left_before left count met same within behind rest = record {
@@ -52,7 +52,7 @@ filling_more old now next left_before left left_after size payload longer run fi
       within = omega (arith, fits, length-append filling.bytes run);
     }
 
--- a run that is not empty, and what stands before its last byte
+-- a run that is not empty: its last byte, and the bytes before it
 front_last : (run : List ℕ) → 0 < length run → (front : List ℕ) × (byte : ℕ) × (run ≡ front ++ byte ∷ [])
 front_last [] some = absurd (omega (arith, some))
 front_last (byte ∷ []) some = ([], byte, refl)

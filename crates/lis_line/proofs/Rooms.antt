@@ -20,7 +20,7 @@ before_feed_all : (text : List ℕ) → IsOneLine text → before_feed text ≡ 
 before_feed_all [] h = refl
 before_feed_all (b ∷ text) h = grind (arith, common_steps, before_feed_all text)
 
--- ---- what a first segment leaves is no longer than the input
+-- ---- the rest after a first segment is no longer than the input
 feed_shorter : (bytes : List ℕ) → length (after_feed bytes) ≤ length bytes
 feed_shorter [] = omega arith
 feed_shorter (b ∷ bytes) = grind (arith, common_steps, feed_shorter bytes)
@@ -99,7 +99,7 @@ two_before_return (a ∷ []) two = grind (arith, common_steps)
 two_before_return (a ∷ b ∷ []) two = grind (arith, common_steps)
 two_before_return (a ∷ b ∷ c ∷ text) two = refl
 
--- the words behind a tag are those after it
+-- the words of the text after a tag are the words after the tag
 pub words_behind : (line word : List ℕ) (words : List (List ℕ)) → IsSome (spoken_in line) → line_words line ≡ word ∷ words → line_words (drop 2 (after_blanks line)) ≡ words
 words_behind line word words some is =
     let rest : List ℕ = after_blanks (without_return line) in

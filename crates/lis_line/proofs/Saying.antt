@@ -13,7 +13,7 @@ use Rattle.lis_line.proofs.Bytes.{gave_none}
 use Rattle.lis_line.proofs.Segments.{segment_behind}
 use Rattle.lis_line.proofs.Rooms.{outside_at, inside_at, outside_last, inside_last}
 
--- nothing follows a line that is said in no room
+-- nothing belongs to a line in no room
 pub outside_taken : (stock : Stocked) (left : Option (List ℕ)) (line : List ℕ) (item : Option Tagged) → IsOneLine line → spoken_in line ≡ None → 0 < stock.rest
     → item ≡ no_room line → WholeSegment (λ more. first_tagged (line ++ 10 ∷ more)) stock stock left left item
 outside_taken stock left line item one none some is = record {
@@ -23,7 +23,7 @@ outside_taken stock left line item one none some is = record {
   is = λ more. outside_at line more one none ∙ ap (λ asked. record { item = asked; rest = more; is_whole = true }) (sym is);
 }
 
--- in a room, what stands behind the tag
+-- in a room, what follows the tag
 pub inside_taken : {E : Type 0} (old new : Stocked) (left_before left : Option (List ℕ)) (line behind : List ℕ) (room : ℕ) (payload : Payload) (result : Result (Segment Spoken) E)
     → IsOneLine line → spoken_in line ≡ Some room → behind ≡ drop 2 (after_blanks line)
     → TakesSegment (λ more. in_room room (first_of (behind ++ 10 ∷ more))) (tagged_with payload) old new left_before left result

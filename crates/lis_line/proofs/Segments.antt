@@ -20,7 +20,7 @@ use Rattle.lis_line.proofs.Bytes.{gave_none, gave_then, gave_line}
 use Rattle.lis_line.proofs.Sized.{asks_alone}
 use Rattle.lis_words.specs.Bytes.{is_feed}
 
--- a segment that begins with these bytes, where what follows them is told by `after`
+-- a segment that begins with these bytes, if `after` gives what follows them
 pub segment_behind : {I R E : Type 0} (first after : List ℕ → FirstOf I) (asks : R → I) (old now next : Stocked) (left_before left left_after : Option (List ℕ)) (start : List ℕ)
     (result : Result (Segment R) E) → Gave old now left_before left start → ((more : List ℕ) → first (start ++ more) ≡ after more)
     → TakesSegment after asks now next left left_after result → TakesSegment first asks old next left_before left_after result
@@ -80,7 +80,7 @@ dropped_last old new left_before left line text taken some none end = record {
   at_end = end;
 }
 
--- behind a payload: a line feed, the end, or another byte
+-- after a payload: a line feed, the end, or another byte
 pub ended_whole : (old new : Stocked) (left_before left : Option (List ℕ)) (byte : ℕ) (item : Option Item)
     → Gave old new left_before left (byte ∷ []) → 0 < new.rest → is_feed byte ≡ true → WholeSegment (first_ended item) old new left_before left item
 ended_whole old new left_before left byte item gave some feed = record {
@@ -126,7 +126,7 @@ behind_with old new left_before left line size payload result one sized takes =
     segment_behind (λ more. first_of (line ++ 10 ∷ more)) (first_with line size) (item_with payload) old old new left_before left_before left [] result
     (gave_none old left_before) (λ more. line_with line more size one sized) takes
 
--- what a last line asks for
+-- what a last line requests
 pub last_asks : (line : List ℕ) (asked : Option (Result Command Refusal)) → IsOneLine line → unwrap_or (payload_size line) 0 ≡ 0
     → line_asks no_payload asked ≡ item_of line no_payload → option_map (item_with no_payload) asked ≡ (first_of line).item
 last_asks line asked one none is = sym (asks_alone asked) ∙ is ∙ sym (by (payload_size line) refl none)

@@ -1,4 +1,4 @@
--- What a line asks for, where a payload follows it.
+-- What a line requests, if a payload follows it.
 use Rattle.std.proofs.Common.{◌≡◌, ℕ, Bool, true, false, cond, ◌||◌, ◌&&◌, List, [], ◌∷◌, codes, Option, Some, None, Result, Ok, Err, ap, sym, ◌∙◌, refl}
 use Rattle.std.specs.Option.{option_map}
 use Rattle.std.proofs.lemmas.Slice.Eq.{bytes_eq-Decides}
@@ -74,28 +74,28 @@ line_with line size payload other command = by (is_long line)
     by true sized is = absurd (cc)
     by false sized is = words_with (line_words line) size payload other command sized is
 
--- a command is said with its payload, where that is the only one that it can have
+-- a command has its payload, if that is the only one that it can have
 payload_said : (payload : Payload) (command : Command) → ((other : Payload) → command_with payload command ≡ Do command other → other ≡ payload)
     → command_with payload command ≡ Do command payload
 payload_said payload (Add name words) only = refl
 payload_said payload (Write name) only = refl
 payload_said payload command only = ap (λ p. Do command p) (only no_payload refl)
 
--- where a payload follows a line, it is the payload of the command
+-- if a payload follows a line, it is the payload of the command
 pub asks_with : (line : List ℕ) (size : ℕ) (payload : Payload) (asked : Option (Result Command Refusal))
     → payload_size line ≡ Some size → line_asks payload asked ≡ item_of line payload → item_of line payload ≡ option_map (item_with payload) asked
 asks_with line size payload None sized is = sym is
 asks_with line size payload (Some (Err refusal)) sized is = sym is
 asks_with line size payload (Some (Ok command)) sized is = sym is ∙ ap Some (payload_said payload command (λ other said. line_with line size payload other command sized (sym is ∙ ap Some said)))
 
--- and where none follows, there is none
+-- and if none follows, there is none
 pub asks_alone : (asked : Option (Result Command Refusal)) → line_asks no_payload asked ≡ option_map (item_with no_payload) asked
 asks_alone None = refl
 asks_alone (Some (Err refusal)) = refl
 asks_alone (Some (Ok Stat)) = refl
 asks_alone (Some (Ok command)) = refl
 
--- ---- a line in which no count stands where one is to stand
+-- ---- a line without a count where one is required
 add_uncounted : (words : List (List ℕ)) (payload : Payload) → IsUncounted words → add_form words payload ≡ bad_line
 add_uncounted [] payload none = refl
 add_uncounted (name ∷ []) payload none = refl

@@ -1,4 +1,4 @@
--- Items that lie whole in bytes.
+-- Items that are complete in bytes.
 use Rattle.std.proofs.Common.{◌≡◌, ℕ, ◌+◌, ◌-◌, ◌≤◌, ◌<◌, Bool, true, false, not, cond, ◌||◌, List, [], ◌∷◌, ◌++◌, length, take, drop, Option, Some, None, suc, ap, sym, subst, ◌∙◌, refl, inl, inr, arith, append_assoc}
 use Rattle.std.specs.List.{prefix_len, list_any}
 use Rattle.std.proofs.lemmas.List.{take-append-drop, take_all, length-take, length-drop}
@@ -39,11 +39,11 @@ line_back (b ∷ bytes) some = by (is_feed b) refl (line_back bytes) some
     by true e more some = ap (λ x. x ∷ bytes) (eqb-true b 10 e)
     by false e more some = rw (one_more (line_len bytes)) (more (omega (arith, some)))
 
--- no line feed stands in the bytes
+-- the bytes have no line feed
 pub no_line : (bytes : List ℕ) (n : ℕ) → n ≡ line_len bytes → n ≡ length bytes → list_any is_feed bytes ≡ false
 no_line bytes n is all = subst IsOneLine (ap (λ k. take k bytes) (sym is ∙ all) ∙ take_all (length bytes) bytes (omega arith)) (line_front bytes)
 
--- or the first line ends at one
+-- or the first line ends at a line feed
 pub line_within : (bytes : List ℕ) (n : ℕ) → n ≡ line_len bytes → n ≤ length bytes
 line_within bytes n is = omega (arith, is, prefix_len-le-length (λ b. not (is_feed b)) bytes)
 
@@ -54,7 +54,7 @@ first_line bytes n is some = (
   subst (λ k. IsOneLine (take k bytes)) (sym is) (line_front bytes),
 )
 
--- what stands behind a line feed
+-- the bytes after a line feed
 pub behind_feed : (rest : List ℕ) → take (length rest - 1) (drop 1 rest) ≡ drop 1 rest
 behind_feed rest = take_all (length rest - 1) (drop 1 rest) (omega (arith, length-drop 1 rest))
 
@@ -67,7 +67,7 @@ feed_at bytes some = elim (cases_lt (line_len bytes) (length bytes)) as (λ _. (
 ]
 
 -- ---- a payload, and what ends it
--- Where there are bytes enough, the segment is whole exactly where a line feed stands behind the payload.
+-- If there are enough bytes, the segment is whole exactly if a line feed follows the payload.
 ended_is_whole : (item : Option Item) (bytes : List ℕ) → (first_ended item bytes).is_whole ≡ list_any is_feed bytes
 ended_is_whole item [] = refl
 ended_is_whole item (b ∷ bytes) = by (is_feed b)
@@ -83,7 +83,7 @@ with_is_whole line bytes size enough =
     ∙ ap (λ (f : First). f.is_whole) (with_payload line (take size bytes) (drop size bytes) size (omega (arith, length-take size bytes, enough)))
     ∙ ended_is_whole (item_of line (payload_of size (take size bytes))) (drop size bytes)
 
--- a line that a payload follows asks for something
+-- a line that a payload follows requests something
 sized_asks : (line : List ℕ) (size : ℕ) (payload : Payload) → payload_size line ≡ Some size → (item : Item) × (item_of line payload ≡ Some item)
 sized_asks line size payload = by (is_long line) (line_words line)
   where
@@ -93,7 +93,7 @@ sized_asks line size payload = by (is_long line) (line_words line)
     by false [] sized = absurd (cc)
     by false (first ∷ words) sized = (_, refl)
 
--- what ends it: its line feed, or all up to the next one
+-- what ends it: its line feed, or everything up to the next one
 ended_at : (item : Item) (text : List ℕ) → IsOneLine text
     → (asked : Item) × ((more : List ℕ) → first_ended (Some item) (text ++ 10 ∷ more) ≡ record { item = Some asked; rest = more; is_whole = true })
 ended_at item [] one = (item, λ more. refl)
@@ -151,7 +151,7 @@ line_lies bytes line behind is one none some = by (item_of line no_payload) refl
     by None asks some = absurd (some refl)
     by (Some item) asks some = segment_lies bytes (line ++ 10 ∷ []) behind item (is ∙ sym (append_assoc line (10 ∷ []) behind)) (alone line (Some item) one none asks)
 
--- ---- lines that ask for nothing, one after another
+-- ---- lines that request nothing, one after another
 pub record Passing (bytes rest : List ℕ) : Type 0 where
   pub passed : List ℕ
   pub is : bytes ≡ passed ++ rest

@@ -26,7 +26,7 @@ blanks_dropped (b ∷ text) = by (is_blank b) (blanks_dropped text)
     by true more = rw (one_more (blanks text)) more
     by false more = refl
 
--- blanks at the front make no word
+-- blanks at the start make no word
 words_past_blanks : (text : List ℕ) → words_of text ≡ words_of (after_blanks text)
 words_past_blanks [] = refl
 words_past_blanks (b ∷ text) = grind (arith, common_steps, words_past_blanks text)
@@ -35,7 +35,7 @@ no_blank_left : (text : List ℕ) → blanks (after_blanks text) ≡ 0
 no_blank_left [] = refl
 no_blank_left (b ∷ text) = grind (arith, common_steps, no_blank_left text)
 
--- a word that began, and what stands behind it
+-- a word that began, and the bytes after it
 pieces_front : (piece text : List ℕ) → is_some_bytes piece ≡ true
     → filter is_some_bytes (pieces_on piece text) ≡ (piece ++ take (word_len text) text) ∷ words_of (drop (word_len text) text)
 pieces_front piece [] some = rw (append-nil piece, some) refl
@@ -80,7 +80,7 @@ one_word text rest n is some at =
     ∙ words_first rest some (ap blanks is ∙ no_blank_left text)
     ∙ ap (λ k. take k rest ∷ words_of (drop k rest)) (sym at)
 
--- a first word is no longer than what stands behind the blanks
+-- a first word is no longer than the text after the blanks
 pub word_fits : (text word : List ℕ) (words : List (List ℕ)) → words_of text ≡ word ∷ words → length word ≤ length (after_blanks text)
 word_fits text word words is = elim (cases_lt 0 (length (after_blanks text))) as (λ _. length word ≤ length (after_blanks text)) [
   | inl some ↦

@@ -17,18 +17,18 @@ pub record LimitTaken {I : Type 0} (cut : Cut I) (limit : ℕ) (input : List ℕ
   pub long : limit < length input
   pub is : script_by cut input limit ≡ first
 
--- a call of the source failed, and these are the items that are whole in the bytes taken
+-- a source call failed, and these are the items that are whole in the bytes taken
 pub record WholeTaken {I : Type 0} (cut : Cut I) (limit : ℕ) (input : List ℕ) (left : Option (List ℕ)) (first : List I) : Type 0 where
   pub taken : List ℕ
   pub consumed : Consumes (Some input) left taken
   pub within : length taken ≤ limit
   pub is : cut.whole taken ≡ first
 
--- some first ones of these items
+-- a prefix of these items
 abbrev pub IsFront : {I : Type 0} → List I → List I → Type 0
 IsFront {I} all first = (others : List I) × (all ≡ first ++ others)
 
--- These items were carried out, and of a known input it is told which they are.
+-- These items were run, and if the input is known, they are those that `are` says.
 pub record Went {I : Type 0} (left_before : Option (List ℕ)) (carried : List I → Type 0) (are : List ℕ → List I → Type 0) : Type 0 where
   pub first : List I
   pub done : carried first
@@ -43,8 +43,8 @@ HasEnded cut limit before left done stopped InputFault =
 HasEnded {I} cut limit before left done stopped (Stopped fault) =
     (item : I) × Went before (λ first. stopped first item fault) (λ input first. IsFront (script_by cut input limit) (first ++ item ∷ []))
 
--- The same where a carrier may hold things back: at each other end than a fault of its own it is settled. It may fail in an item, or in
--- settling behind one.
+-- The same for a carrier that may hold things back: it is settled at every end except its own fault. It may fail in an item, or in settling
+-- after one.
 abbrev pub HoldEnded : {I F : Type 0} → Cut I → ℕ → Option (List ℕ) → Option (List ℕ) → Type 0 → (List I → Type 0) → (List I → F → Type 0) → Halt F → Type 0
 HoldEnded cut limit before left settled done stopped End = settled × Went before done (λ input first. AllTaken cut limit input left first)
 HoldEnded cut limit before left settled done stopped Limit = settled × Went before done (λ input first. LimitTaken cut limit input first)
@@ -53,7 +53,7 @@ HoldEnded cut limit before left settled done stopped InputFault =
 HoldEnded cut limit before left settled done stopped (Stopped fault) =
     Went before (λ first. stopped first fault) (λ input first. IsFront (script_by cut input limit) first)
 
--- it ends at a fault of the source only where its count rose, and else the count stays
+-- it ends at a fault of the source only if the count rose, and otherwise the count stays
 abbrev pub HasHaltCause : {F : Type 0} → ℕ → ℕ → Halt F → Type 0
 HasHaltCause before now End = now ≡ before
 HasHaltCause before now Limit = now ≡ before

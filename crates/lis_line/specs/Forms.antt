@@ -1,4 +1,4 @@
--- What a line asks for, as the code answers it.
+-- What a line requests, as the code returns it.
 use Rattle.std.specs.Prelude.{◌≡◌, ℕ, false, List, [], ◌∷◌, Option, Some, None, Result, Ok, Err, IsTrue, ⊤}
 use Rattle.lis_model.specs.declared.command.Command.{Command}
 use Rattle.lis_model.specs.declared.command.Command.TheVariants.{Add, Write}
@@ -8,7 +8,7 @@ use Rattle.lis_model.specs.Step.Item.{Do, Bad}
 use Rattle.lis_model.specs.Script.{bad_line}
 use Rattle.lis_words.specs.Words.{is_count, count_of}
 
--- a command, given what stands behind its line: `add` and `write` alone have it as their payload
+-- a command, given the payload after its line: `add` and `write` alone have it as their payload
 abbrev pub command_with : Payload → Command → Item
 command_with payload (Add name words) = Do (Add name words) payload
 command_with payload (Write name) = Do (Write name) payload
@@ -22,7 +22,7 @@ abbrev pub line_asks : Payload → Option (Result Command Refusal) → Option It
 line_asks payload None = None
 line_asks payload (Some asked) = Some (asked_of payload asked)
 
--- what a line asks for that is to have one word of some kind behind its first word, or two
+-- what a line requests that must have one word of some kind after its first word, or two
 abbrev pub word_asks : (List ℕ → Item) → Option (List ℕ) → Item
 word_asks item None = bad_line
 word_asks item (Some word) = item word
@@ -31,7 +31,7 @@ abbrev pub pair_asks : (List ℕ → List ℕ → Item) → Option (List ℕ × 
 pair_asks item None = bad_line
 pair_asks item (Some two) = item two.0 two.1
 
--- The words of a line behind its first one: a word, a count, and others; or there is no count in the second place.
+-- The words of a line after its first one: a word, a count, and others; or the second one is no count.
 pub record IsCounted (words : List (List ℕ)) (word : List ℕ) (number : ℕ) (others : List (List ℕ)) : Type 0 where
   pub count : List ℕ
   pub split : words ≡ word ∷ count ∷ others

@@ -8,7 +8,7 @@ use Rattle.lis_model.specs.Script.{payload_limit, payload_of}
 abbrev pub frame_bytes : Region ℕ → ℕ → List ℕ
 frame_bytes region frame = unwrap_or (get region frame) []
 
--- the first so many of them
+-- the first `size` of them
 abbrev pub payload_in : Region ℕ → ℕ → ℕ → Payload
 payload_in region frame size = payload_of size (take size (frame_bytes region frame))
 

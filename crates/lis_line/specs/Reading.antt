@@ -17,8 +17,8 @@ use Rattle.lis_line.specs.declared.reader.Next.TheVariants.{Item as NextItem, En
 use Rattle.lis_line.specs.declared.reader.Item.{Item as Said}
 use Rattle.lis_line.specs.declared.reader.Item.TheVariants.{Command as SaidCommand, Bad as SaidBad, End as SaidEnd, Limit as SaidLimit}
 
--- A reader: what was taken and may still be given (the last byte lies past the limit), whether the last item was given, and whether
--- it has ended.
+-- A reader: what was taken and may still be given (the last byte is past the limit), whether the last item was given, and whether it has
+-- ended.
 pub record Reading : Type 0 where
   pub stock : Stocked
   pub is_closed : Bool
@@ -27,12 +27,12 @@ pub record Reading : Type 0 where
 abbrev pub fresh : ℕ → Reading
 fresh limit = record { stock = record { ahead = []; rest = limit + 1 }; is_closed = false; is_ended = false }
 
--- The bytes are these items, and each is whole, whatever follows. They are none where the bytes ask for nothing.
+-- The bytes are these items, and each is whole, whatever follows. There are no items if the bytes request nothing.
 pub record IsWhole {I : Type 0} (cut : Cut I) (bytes : List ℕ) (items : List I) : Type 0 where
   pub all : (more : List ℕ) → cut.all (bytes ++ more) ≡ items ++ cut.all more
   pub whole : (more : List ℕ) → cut.whole (bytes ++ more) ≡ items ++ cut.whole more
 
--- the bytes are the last item, which has no line feed of its own
+-- the bytes are the last item, which does not have its own line feed
 pub record IsLast {I : Type 0} (cut : Cut I) (bytes : List ℕ) (item : I) : Type 0 where
   pub all : cut.all bytes ≡ item ∷ []
   pub whole : cut.whole bytes ≡ []
@@ -85,7 +85,7 @@ pub record GaveRest {I : Type 0} (cut : Cut I) (old new : Stocked) (left_before 
   pub none_whole : cut.whole bytes ≡ []
   pub nothing_ahead : new.ahead ≡ []
 
--- what is taken as one segment out of a stock, where `asks` tells what it asks for
+-- what is taken as one segment from a stock, if `asks` gives what it requests
 abbrev pub GivesSegment : {I R E : Type 0} → Cut I → (R → I) → Stocked → Stocked → Option (List ℕ) → Option (List ℕ) → Result (Segment R) E → Type 0
 GivesSegment cut asks old new left_before left (Ok (WholeSegment asked)) = GaveWhole cut old new left_before left (option_to_list (option_map asks asked))
 GivesSegment cut asks old new left_before left (Ok (LastSegment (Some asked))) = GaveLast cut old new left_before left (asks asked)
@@ -93,7 +93,7 @@ GivesSegment cut asks old new left_before left (Ok (LastSegment None)) = GaveEnd
 GivesSegment cut asks old new left_before left (Ok SegmentPast) = Overran cut old new left_before left
 GivesSegment cut asks old new left_before left (Err failed) = GaveRest cut old new left_before left
 
--- what is taken next that asks for something
+-- the next segment that is taken and requests something
 abbrev pub GivesAsked : {I R E : Type 0} → Cut I → (R → I) → Stocked → Stocked → Option (List ℕ) → Option (List ℕ) → Result (Taken R) E → Type 0
 GivesAsked cut asks old new left_before left (Ok (Whole asked)) = GaveWhole cut old new left_before left (asks asked ∷ [])
 GivesAsked cut asks old new left_before left (Ok (Last asked)) = GaveLast cut old new left_before left (asks asked)
@@ -115,7 +115,7 @@ Gives cut old new left_before left (Ok End) = GaveEnd cut old.stock new.stock le
 Gives cut old new left_before left (Ok Limit) = Overran cut old.stock new.stock left_before left × (new.is_ended ≡ true)
 Gives cut old new left_before left (Err failed) = GaveRest cut old.stock new.stock left_before left × (new.is_ended ≡ true)
 
--- and once it was given: the end, with no call of the source
+-- and after it was given: the end, without a source call
 pub record Closes {I E : Type 0} (old new : Reading) (left_before left : Option (List ℕ)) (answer : Result (Next I) E) : Type 0 where
   pub ends : answer ≡ Ok End
   pub ended : new.is_ended ≡ true
@@ -125,7 +125,7 @@ pub record Says {I E : Type 0} (cut : Cut I) (old new : Reading) (left_before le
   pub gives : old.is_closed ≡ false → Gives cut old new left_before left answer
   pub closes : old.is_closed ≡ true → Closes old new left_before left answer
 
--- what an answer tells, where `says` tells what its value says
+-- what a result says, if `says` gives what its value says
 abbrev pub told : {X I E : Type 0} → (X → Next I) → Result X E → Result (Next I) E
 told says (Ok said) = Ok (says said)
 told says (Err failed) = Err failed
@@ -135,14 +135,14 @@ next_map asks (NextItem asked) = NextItem (asks asked)
 next_map asks End = End
 next_map asks Limit = Limit
 
--- an item was given, or the limit told: neither the end nor a fault
+-- an item was returned, or the limit: neither the end nor a fault
 abbrev pub GoesOn : {I E : Type 0} → Result (Next I) E → Type 0
 GoesOn (Ok (NextItem item)) = ⊤
 GoesOn (Ok End) = ⊥
 GoesOn (Ok Limit) = ⊤
 GoesOn (Err failed) = ⊥
 
--- some item lies whole in these bytes, whatever follows
+-- some item is complete in these bytes, whatever follows
 pub record LiesWhole {I : Type 0} (cut : Cut I) (bytes : List ℕ) : Type 0 where
   pub front : List ℕ
   pub rest : List ℕ
@@ -152,12 +152,12 @@ pub record LiesWhole {I : Type 0} (cut : Cut I) (bytes : List ℕ) : Type 0 wher
 
 -- ---- the items of a session
 
--- what a line asks for, with the payload that was taken
+-- what a line requests, with the payload that was taken
 abbrev pub item_with : Payload → Result Command Refusal → Item
 item_with payload (Ok command) = Do command payload
 item_with payload (Err refusal) = Bad refusal
 
--- what an item of the code asks for, with the payload behind it; the end and the limit ask for nothing
+-- what an item of the code requests, with the payload after it; the end and the limit request nothing
 abbrev pub asked_by : Said → Payload → Option Item
 asked_by (SaidCommand command) payload = Some (Do command payload)
 asked_by (SaidBad refusal) payload = Some (Bad refusal)

@@ -10,7 +10,7 @@ use Rattle.lis_words.specs.Bytes.{is_feed}
 pub record Stocked : Type 0 where
   -- taken and not given
   pub ahead : List ℕ
-  -- how many bytes may still be given; the last of them lies past the limit
+  -- how many bytes may still be given; the last of them is past the limit
   pub rest : ℕ
 
 -- all that is still to come

@@ -1,4 +1,4 @@
-//! Whether an item lies whole in bytes that were taken already.
+//! Whether an item is complete in bytes that were taken already.
 
 ghost use Rattle.std.specs.Prelude.{◌≡◌, ℕ, ◌∷◌, ◌++◌, List, [], not, false, None, Some, IsTrue, MatchOption, ◌↔◌};
 ghost use Rattle.std.specs.List.{list_any, prefix_len};
@@ -12,7 +12,7 @@ use crate::line::{is_long, no_words, without_return};
 use crate::stock::is_feed;
 use lis_ports::{Failed, Source};
 
-/// A source that has nothing, for what is taken already.
+/// A source without bytes, for reading what was taken already.
 #[derive(Drop)]
 pub struct Nothing;
 
@@ -28,14 +28,14 @@ impl Source for Nothing {
     }
 }
 
-/// How many bytes stand before the first line feed.
+/// How many bytes are before the first line feed.
 fn line_len(bytes: &[u8]) -> usize
     ensures { result ≡ prefix_len (λ b. not (is_feed b)) bytes.now }
 {
     bytes.iter().take_while(|byte| !is_feed(**byte)).count()
 }
 
-/// The first line, and what stands behind its line feed; None where there is no line feed.
+/// The first line, and the bytes after its line feed; `None` if there is no line feed.
 fn first_line(bytes: &[u8]) -> Option<(&[u8], &[u8])>
     ensures { MatchOption result (list_any is_feed bytes.now ≡ false)
         (λ found. (bytes.now ≡ found.0.now ++ 10 ∷ found.1.now) × (list_any is_feed found.0.now ≡ false)) }
@@ -48,14 +48,14 @@ fn first_line(bytes: &[u8]) -> Option<(&[u8], &[u8])>
     Some((line, &rest[1..]))
 }
 
-/// Whether a line asks for nothing.
+/// Whether a line requests nothing.
 fn is_empty(line: &[u8]) -> bool
     ensures { IsTrue result ↔ (item_of line.now no_payload ≡ None) }
 {
     !is_long(line) && no_words(without_return(line))
 }
 
-/// Whether a payload of so many bytes, and what ends it, lie whole in the bytes behind a line.
+/// Whether the bytes after a line have a complete payload of this many bytes, and what ends it.
 fn has_payload(bytes: &[u8], size: u64) -> bool
     ensures { (line : List ℕ) → result ≡ (first_with line size bytes.now).is_whole }
 {
@@ -65,7 +65,7 @@ fn has_payload(bytes: &[u8], size: u64) -> bool
     first_line(&bytes[size as usize..]).is_some()
 }
 
-/// Whether some item of a session lies whole in these bytes, whatever follows. Lines that ask for nothing are passed over.
+/// Whether some item of a session is complete in these bytes, whatever follows. Lines that request nothing are skipped.
 pub fn lies_whole(bytes: &[u8]) -> bool
     ensures whole { IsTrue result → LiesWhole session_cut bytes.now }
     ensures none { result ≡ false → session_cut.whole bytes.now ≡ [] }

@@ -1,4 +1,4 @@
-//! What a line asks for, and how many bytes are to follow it.
+//! What a line requests, and how many bytes must follow it.
 
 ghost use Rattle.std.specs.Prelude.{◌≡◌, ◌≤◌, ◌∷◌, length, ◌||◌, false, Some, IsTrue, codes};
 ghost use Rattle.lis_words.specs.Words.{same_word};
@@ -16,26 +16,26 @@ use lis_limits::MAX_LINE;
 use lis_model::command::Command;
 use lis_model::refusal::Refusal;
 
-/// What a line asks for, without the payload behind it.
+/// What a line requests, without the payload that follows it.
 pub type Request = Result<Command, Refusal>;
 
-/// What a line asks for, and how many bytes are to follow it.
+/// What a line requests, and how many bytes must follow it.
 #[derive(Drop)]
 pub struct ParsedLine {
-    /// None for a line without words.
+    /// `None` for a line without words.
     pub request: Option<Request>,
-    /// How many bytes are to follow the line and its line feed; None where no payload follows.
+    /// How many bytes must follow the line and its line feed; `None` if no payload follows.
     pub size: Option<u64>,
 }
 
-/// Whether the first word is this one. It is a function, since what a check sees of a literal stands in each step behind it.
+/// Whether the first word is this one. It is a separate function, since otherwise a check sees the literal in each later step.
 fn is_word(first: &[u8], word: &[u8]) -> bool
     ensures { result ≡ same_word first.now word.now }
 {
     first == word
 }
 
-/// What a line asks for that no payload follows, by its first word and what stands behind it.
+/// What a line without a payload requests, by its first word and the text after it.
 fn command_of(first: &[u8], rest: &[u8]) -> Request
     requires few { length rest.now ≤ MAX_LINE }
     requires alone { (same_word first.now (codes "add") || same_word first.now (codes "write")) ≡ false }
@@ -98,7 +98,7 @@ fn takes_payload(first: &[u8]) -> bool
     is_word(first, b"write")
 }
 
-/// What `add` or `write` asks for, by what stands behind it.
+/// What `add` or `write` requests, by the text after it.
 fn sized_of(first: &[u8], rest: &[u8]) -> ParsedLine
     requires { IsTrue (same_word first.now (codes "add") || same_word first.now (codes "write")) }
     ensures asks { (payload : Payload) → line_asks payload result.request ≡ Some (form_of first.now (words_of rest.now) payload) }
@@ -121,7 +121,7 @@ fn sized_of(first: &[u8], rest: &[u8]) -> ParsedLine
     }
 }
 
-/// What a line asks for, given what stands before its line feed.
+/// What a line requests, given the bytes before its line feed.
 pub fn asked(line: &[u8]) -> ParsedLine
     ensures asks { (payload : Payload) → line_asks payload result.request ≡ item_of line.now payload }
     ensures size { result.size ≡ payload_size line.now }
@@ -147,7 +147,7 @@ pub fn asked(line: &[u8]) -> ParsedLine
     }
 }
 
-/// How many bytes are to follow a line and its line feed, where nothing else of the line is asked for.
+/// How many bytes must follow a line and its line feed, for callers that need nothing else of the line.
 pub fn payload_size(line: &[u8]) -> Option<u64>
     ensures { result ≡ payload_size line.now }
 {

@@ -1,4 +1,4 @@
-//! The one loop over an input: an item after another is read, and carried out.
+//! The one loop over an input: it reads the items one after another, and runs them.
 
 ghost use Rattle.std.specs.Prelude.{ℕ, ◌+◌, ◌≤◌, ◌^◌, List, [], ◌∷◌, ◌++◌, IfOk, IfSome, IsSome, MatchResult};
 ghost use Rattle.lis_ports.specs.Calls.{FaultEnds};
@@ -10,24 +10,24 @@ use crate::input::InputItem;
 use crate::reader::{LineReader, Next, Payload};
 use lis_ports::{Source, Station};
 
-/// What carries out the items of an input on a station.
+/// What runs the items of an input on a station.
 pub trait Carrier {
     /// What the input is made of.
     type Item: InputItem;
 
-    /// Why an item could not be carried out.
+    /// Why an item could not be run.
     type Fault;
 
-    /// Whether it can carry out so many items more on such a station.
+    /// Whether it can run this many more items on such a station.
     ghost is_ready: { Self → Meaning → ℕ → Type 0 };
 
-    /// What it and the station have come to since a start: these items were carried out, in this order.
+    /// What it and the station have become since a start: these items were run, in this order.
     ghost has_done: { Self → Meaning → List Self.Item.Asked → Self → Meaning → Type 0 };
 
-    /// What they have come to since a start, where these items were carried out and then there was a fault in this one.
+    /// What they have become since a start, if these items were run and then there was a fault in this one.
     ghost has_stopped: { Self → Meaning → List Self.Item.Asked → Self.Item.Asked → Self.Fault → Self → Meaning → Type 0 };
 
-    /// Carries out an item.
+    /// Runs an item.
     fn carry<T: Station>(
         &mut self,
         item: &Self::Item,
@@ -45,21 +45,21 @@ pub trait Carrier {
             (λ fault. has_stopped start (T.meaning entry) first asked fault self.new (T.meaning station.new))) };
 }
 
-/// Where the loop over an input ended.
+/// How the loop over an input ended.
 #[derive(Clone, Copy, Debug, PartialEq, Eq)]
 pub enum Halt<F> {
     /// The input has ended.
     End,
     /// The input is longer than its limit.
     Limit,
-    /// A call of the source failed.
+    /// A source call failed.
     InputFault,
-    /// An item could not be carried out.
+    /// An item could not be run.
     Stopped(F),
 }
 
-/// Carries out the items of an input of at most `limit` bytes, up to its end, its limit or the first fault. It takes at most one byte past
-/// the limit. Each item takes a byte at least, so there are at most `limit` items.
+/// Runs the items of an input of at most `limit` bytes, up to its end, its limit or the first fault. It takes at most one byte past the
+/// limit. Each item takes at least one byte, so there are at most `limit` items.
 pub fn carry_all<C: Carrier, S: Source, T: Station>(
     carrier: &mut C,
     payload: &mut Payload,

@@ -1,4 +1,4 @@
-//! The forms of lines, by what stands behind the first word.
+//! The forms of lines, by the text after the first word.
 
 ghost use Rattle.std.specs.Prelude.{◌≡◌, ◌↔◌, ℕ, ◌≤◌, List, ◌∷◌, length, IsSome, IfSome, MatchOption, IsTrue};
 ghost use Rattle.lis_words.specs.Words.{is_property, is_file_name, is_count};
@@ -23,7 +23,7 @@ fn read_property(bytes: &[u8]) -> Option<Word>
     read_word(bytes)
 }
 
-/// The only word of a text, where it may be a property.
+/// The only word of a text, if it may be a property.
 fn property(text: &[u8]) -> Option<Word>
     ensures { (item : List ℕ → Item) → word_asks item result ≡ one_word_form is_property item (words_of text.now) }
 {
@@ -34,7 +34,7 @@ fn property(text: &[u8]) -> Option<Word>
     }
 }
 
-/// The two words of a text that has no others, where both may be properties.
+/// The two words of a text that has no others, if both may be properties.
 fn two_properties(text: &[u8]) -> Option<(Word, Word)>
     ensures { (item : List ℕ → List ℕ → Item) → pair_asks item result ≡ two_words_form is_property is_property item (words_of text.now) }
 {
@@ -44,7 +44,7 @@ fn two_properties(text: &[u8]) -> Option<(Word, Word)>
     Some((left, right))
 }
 
-/// The only word of a text, where it is the name of a file.
+/// The only word of a text, if it is a file name.
 fn file_name(text: &[u8]) -> Option<Name>
     ensures { (item : List ℕ → Item) → word_asks item result ≡ one_word_form is_file_name item (words_of text.now) }
 {
@@ -88,7 +88,7 @@ pub fn unaxiom_form(text: &[u8]) -> Result<Command, Refusal>
     }
 }
 
-/// The words that a file is to be given. All are read, also where there are too many.
+/// The words to be assigned to a file. All of them are read, even if there are too many.
 fn tags_form(text: &[u8]) -> Result<Tags, Refusal>
     ensures { result ≡ tags_form (words_of text.now) }
 {
@@ -129,7 +129,7 @@ pub fn create_form(text: &[u8]) -> Result<Command, Refusal>
     }
 }
 
-/// A word, the number that a count behind it spells, and what stands behind both; None where there is no count.
+/// A word, the number that the count after it spells, and the text after both; `None` if there is no count.
 pub fn counted(text: &[u8]) -> Option<(&[u8], u64, &[u8])>
     ensures { MatchOption result (IsUncounted (words_of text.now)) (λ found. IsCounted (words_of text.now) found.0.now found.1 (words_of found.2.now)) }
 {
@@ -141,7 +141,7 @@ pub fn counted(text: &[u8]) -> Option<(&[u8], u64, &[u8])>
     }
 }
 
-/// What `add` asks for, by the words before and behind the count.
+/// What `add` requests, by the word before the count and the text after it.
 pub fn add_form(first: &[u8], text: &[u8]) -> Result<Command, Refusal>
     ensures { (size : List ℕ) (payload : Payload) → IsTrue (is_count size) → asked_of payload result ≡ add_form (first.now ∷ size ∷ words_of text.now) payload }
 {
@@ -154,7 +154,7 @@ pub fn add_form(first: &[u8], text: &[u8]) -> Result<Command, Refusal>
     }
 }
 
-/// What `write` asks for, by the words before and behind the count.
+/// What `write` requests, by the word before the count and the text after it.
 pub fn write_form(first: &[u8], text: &[u8]) -> Result<Command, Refusal>
     ensures { (size : List ℕ) (payload : Payload) → IsTrue (is_count size)
         → asked_of payload result ≡ two_words_form is_file_name is_count (λ name size. Do (Write name) payload) (first.now ∷ size ∷ words_of text.now) }

@@ -14,24 +14,24 @@ use crate::input::InputItem;
 use crate::reader::{Item, LineReader, Next, Payload};
 use lis_ports::{Source, Station};
 
-/// What carries out the items of a session, and may hold back what it did until it is told to settle.
+/// What runs the items of a session, and may hold back what it did until it is told to settle.
 pub trait Holder {
-    /// Why an item could not be carried out, or what is held back could not be settled.
+    /// Why an item could not be run, or why what is held back could not be settled.
     type Fault;
 
-    /// Whether it can carry out so many items more on such a station.
+    /// Whether it can run this many more items on such a station.
     ghost is_ready: { Self → Meaning → ℕ → Type 0 };
 
     /// Nothing is held back.
     ghost is_settled: { Self → Type 0 };
 
-    /// What it and the station have come to since a start: these items were carried out, in this order.
+    /// What it and the station have become since a start: these items were run, in this order.
     ghost has_done: { Self → Meaning → List Asked → Self → Meaning → Type 0 };
 
-    /// The same, where in the last of these items there was this fault, or in settling behind it.
+    /// The same, if there was this fault in the last of these items, or in settling after it.
     ghost has_stopped: { Self → Meaning → List Asked → Self.Fault → Self → Meaning → Type 0 };
 
-    /// Carries out an item.
+    /// Runs an item.
     fn carry<T: Station>(
         &mut self,
         item: &Item,
@@ -59,7 +59,7 @@ pub trait Holder {
             (λ fault. has_stopped start (T.meaning entry) first fault self.new (T.meaning station.new)) };
 }
 
-/// Settles, unless an item lies whole in what was taken of the source.
+/// Settles, unless an item is complete in what was taken from the source.
 fn settle_unless<C: Holder, T: Station>(
     lies_whole: bool,
     carrier: &mut C,
@@ -80,8 +80,8 @@ fn settle_unless<C: Holder, T: Station>(
     carrier.settle(station)
 }
 
-/// Carries out the items of an input of at most `limit` bytes, up to its end, its limit or the first fault. Before it reads on where no
-/// item lies whole in what was taken of the source, the carrier settles: so nothing is held back while the source is asked.
+/// Runs the items of an input of at most `limit` bytes, up to its end, its limit or the first fault. If no item is complete in what was
+/// taken from the source, the carrier settles before it reads on. So nothing is held back while the source is called.
 pub fn carry_held<C: Holder, S: Source, T: Station>(
     carrier: &mut C,
     payload: &mut Payload,

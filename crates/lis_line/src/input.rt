@@ -10,7 +10,7 @@ use crate::payload::Payload;
 use crate::stock::Stock;
 use lis_ports::{Failed, Source};
 
-/// What was taken of the input, and what it asks for; None where it asks for nothing.
+/// What was taken of the input, and what it requests; `None` if it requests nothing.
 pub enum Segment<R> {
     /// A segment with its own line feed.
     Whole(Option<R>),
@@ -22,25 +22,25 @@ pub enum Segment<R> {
 
 /// An item of some kind of input.
 pub trait InputItem: Drop {
-    /// What an item asks for, as clauses have it.
+    /// What an item requests, as clauses state it.
     type Asked;
 
-    /// What a segment asks for, without its payload.
+    /// What a segment requests, without its payload.
     type Request: Drop;
 
     /// How an input is cut into items.
     ghost cut: { Cut Self.Asked };
 
-    /// What a segment asks for, with its payload.
+    /// What a segment requests, with its payload.
     ghost asks: { Told → Self.Request → Self.Asked };
 
-    /// What an item asks for, with its payload; the end and the limit ask for nothing.
+    /// What an item requests, with its payload; the end and the limit request nothing.
     ghost asked: { Self → Told → Option Self.Asked };
 
     /// Whether a reader may give this.
     ghost is_said: { Self → Type 0 } = { λ _. ⊤ };
 
-    /// Takes a line, and what belongs to it.
+    /// Takes a line, and its payload.
     fn take_segment<S: Source>(
         stock: &mut Stock,
         payload: &mut Payload,
@@ -51,7 +51,7 @@ pub trait InputItem: Drop {
         ensures few { length stock.new.ahead ≤ stock.new.rest }
         ensures source { UsesSource (S.faults source.old) (S.faults source.new) (S.behind source.old) (S.behind source.new) result };
 
-    /// The item that asks for this.
+    /// The item that requests this.
     fn of(request: Self::Request) -> Self
         ensures asks { (payload : Told) → asked result payload ≡ Some (asks payload request) }
         ensures said { is_said result };

@@ -1,4 +1,4 @@
-//! Items out of an input, whatever pieces it comes in.
+//! Items of an input, in whatever pieces it comes.
 #![tactic(auto)]
 
 mod ahead;

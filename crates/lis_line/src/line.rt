@@ -27,7 +27,7 @@ fn blanks(text: &[u8]) -> usize
     text.iter().take_while(|byte| is_blank(**byte)).count()
 }
 
-/// A text without the blanks at its front.
+/// A text without the blanks at its start.
 pub fn after_blanks(text: &[u8]) -> &[u8]
     ensures text { result.now ≡ after_blanks text.now }
     ensures shorter { length result.now ≤ length text.now }
@@ -54,7 +54,7 @@ pub fn without_return(line: &[u8]) -> &[u8]
     if last[0] == b'\r' { front } else { line }
 }
 
-/// The first word of a text and what stands behind it; None where there is no word.
+/// The first word of a text, and the text after it; `None` if there is no word.
 pub fn next_word(text: &[u8]) -> Option<(&[u8], &[u8])>
     ensures words { MatchOption result (words_of text.now ≡ [])
         (λ found. words_of text.now ≡ found.0.now ∷ words_of found.1.now) }

@@ -1,4 +1,4 @@
-//! The bytes that come behind a command's line.
+//! The payload after a command's line.
 
 ghost use Rattle.std.specs.Prelude.{◌≡◌, ◌+◌, ◌<◌, ◌≤◌, ◌^◌, [], ◌++◌, length, take, drop, IfOk};
 ghost use Rattle.lis_model.specs.Step.{no_payload};
@@ -14,7 +14,7 @@ use lis_region::{Frame, Region};
 use std::alloc::{AllocError, Global};
 use std::marker::Model;
 
-/// The payload behind a line: how many bytes it has, and the bytes themselves, where so many are kept.
+/// The payload after a line: how many bytes it has, and the bytes themselves, if this many are kept.
 #[derive(Drop)]
 pub struct Payload {
     region: Region<u8>,
@@ -44,7 +44,7 @@ fn write(region: &mut Region<u8>, frame: &Frame, place: usize, bytes: &[u8])
 }
 
 impl Payload {
-    /// An empty payload. All memory that it will use is taken here.
+    /// An empty payload. All memory that it will use is allocated here.
     pub fn new(alloc: Global) -> Result<Payload, AllocError>
         ensures { IfOk result (λ payload. payload ≡ no_payload) }
     {
@@ -66,7 +66,7 @@ impl Payload {
         self.size
     }
 
-    /// The bytes themselves; none where there are more than are kept.
+    /// The bytes themselves; no bytes if there are more than are kept.
     pub fn bytes(&self) -> &[u8]
         ensures bytes { result.now ≡ self.now.bytes }
         ensures few { length result.now ≤ payload_limit }
@@ -86,7 +86,7 @@ impl Payload {
         self.size = 0;
     }
 
-    /// Puts the bytes behind those that it has.
+    /// Appends the bytes.
     pub fn append(&mut self, bytes: &[u8])
         requires { self.old.size + length bytes.now < 2 ^ 64 }
         ensures { self.new ≡ with_bytes self.old bytes.now }
@@ -99,17 +99,17 @@ impl Payload {
     }
 }
 
-/// How the taking of so many bytes ended.
+/// How taking a number of bytes ended.
 pub enum Filled {
-    /// With all of them.
+    /// All of them were taken.
     All,
-    /// At the end of the input.
+    /// The input ended.
     Cut,
-    /// At the byte past the limit.
+    /// The byte past the limit was taken.
     Spent,
 }
 
-// Takes a run of bytes behind those that the payload has, at most so many; false at the end.
+// Takes a run of at most `most` bytes and appends it to the payload. The result is false at the end of the input.
 fn take_run<S: Source>(
     stock: &mut Stock,
     payload: &mut Payload,
@@ -133,7 +133,7 @@ fn take_run<S: Source>(
     Ok(true)
 }
 
-/// Takes so many bytes as the payload.
+/// Takes this many bytes as the payload.
 pub fn fill<S: Source>(
     stock: &mut Stock,
     payload: &mut Payload,

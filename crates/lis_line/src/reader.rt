@@ -16,12 +16,12 @@ use lis_model::refusal::Refusal;
 use lis_ports::{Failed, Source};
 use std::marker::Model;
 
-/// What the input of a session says next.
+/// What the input of a session has next.
 #[derive(Drop, Debug)]
 pub enum Item {
-    /// A command. The payload behind its line stands in the `Payload` that `next` was handed.
+    /// A command. The payload after its line is in the `Payload` that was passed to `next`.
     Command(Command),
-    /// A segment of the input that can't be done.
+    /// A segment of the input that is refused.
     Bad(Refusal),
     /// The end of the input.
     End,
@@ -29,7 +29,7 @@ pub enum Item {
     Limit,
 }
 
-/// What an item of a session asks for, as clauses have it. Code has no use for its value.
+/// What an item of a session requests, as clauses state it. Code has no use for its value.
 pub struct AskedItem;
 
 impl Model for AskedItem {
@@ -41,10 +41,10 @@ impl Model for AskedItem {
     ghost view = { λ _. bad_line };
 }
 
-/// What an input says next.
+/// What an input has next.
 #[derive(Drop)]
 pub enum Next<R> {
-    /// What is asked for.
+    /// What is requested.
     Item(R),
     /// The end of the input.
     End,
@@ -88,14 +88,14 @@ impl LineReader {
         }
     }
 
-    /// Whether the end, the limit or a fault was answered.
+    /// Whether the end, the limit or a fault was returned.
     pub fn is_ended(&self) -> bool
         ensures { result ≡ self.now.is_ended }
     {
         self.is_ended
     }
 
-    /// Whether an item of a session lies whole in what was taken: then `read_held` gives the next one with no call of the source.
+    /// Whether an item of a session is complete in what was taken. If so, `read_held` returns the next one without a source call.
     pub fn lies_whole(&self) -> bool
         ensures whole { IsTrue result → (self.now.is_closed ≡ false) × LiesWhole session_cut self.now.stock.ahead }
         ensures none { result ≡ false → self.now.is_closed ≡ false → session_cut.whole self.now.stock.ahead ≡ [] }
@@ -103,7 +103,7 @@ impl LineReader {
         !self.is_closed && lies_whole(self.stock.ahead())
     }
 
-    /// What the next item asks for, of an input of any kind, with its payload. Segments that ask for nothing are skipped.
+    /// What the next item of an input of any kind requests, with its payload. Segments that request nothing are skipped.
     pub fn read<I: InputItem, S: Source>(
         &mut self,
         source: &mut S,
@@ -139,8 +139,8 @@ impl LineReader {
         }
     }
 
-    /// What the next item of a session asks for, as `read` gives it. Where one lies whole in what was taken, the source is not called, and the
-    /// answer is neither the end nor a fault.
+    /// What the next item of a session requests, as `read` returns it. If one is complete in what was taken, the source is not called, and
+    /// the result is neither the end nor a fault.
     pub fn read_held<S: Source>(
         &mut self,
         lies_whole: bool,

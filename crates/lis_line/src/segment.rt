@@ -1,4 +1,4 @@
-//! Segments of a session's input: a line, and the payload behind it.
+//! Segments of a session's input: a line, and the payload after it.
 
 ghost use Rattle.std.specs.Prelude.{◌≡◌, ℕ, ◌<◌, ◌≤◌, List, ◌∷◌, ◌++◌, false, length};
 ghost use Rattle.std.specs.Option.{option_map};
@@ -19,7 +19,7 @@ use arrayvec::ArrayVec;
 use lis_model::refusal::Refusal;
 use lis_ports::{Failed, Source};
 
-/// Drops all up to the next line feed, behind a byte that ends no payload.
+/// Drops everything up to the next line feed, and the line feed, after a byte that does not end a payload.
 fn drop_line<S: Source>(stock: &mut Stock, source: &mut S) -> Result<Segment<Request>, Failed>
     requires { 0 < stock.old.rest }
     ensures takes { (payload : Told) → TakesSegment first_dropped (item_with payload) stock.old stock.new (S.left source.old) (S.left source.new) result }
@@ -34,7 +34,7 @@ fn drop_line<S: Source>(stock: &mut Stock, source: &mut S) -> Result<Segment<Req
     }
 }
 
-/// Takes what is to end a payload: one line feed, or nothing at the end of the input.
+/// Takes what must end a payload: one line feed, or nothing at the end of the input.
 fn take_end<S: Source>(
     stock: &mut Stock,
     request: Option<Request>,
@@ -57,7 +57,7 @@ fn take_end<S: Source>(
     drop_line(stock, source)
 }
 
-/// Takes the payload behind a line, and what ends it. The request is what the line asks for.
+/// Takes the payload after a line, and what ends it. The request is that of the line.
 fn take_payload<S: Source>(
     stock: &mut Stock,
     payload: &mut Payload,
@@ -101,7 +101,7 @@ pub fn take_behind<S: Source>(
     }
 }
 
-/// What a last line without a line feed asks for.
+/// What a last line without a line feed requests.
 pub fn asked_last(line: &[u8]) -> Option<Request>
     requires { list_any is_feed line.now ≡ false }
     ensures { option_map (item_with no_payload) result ≡ (first_of line.now).item }

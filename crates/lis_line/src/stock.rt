@@ -1,4 +1,4 @@
-//! Bytes out of a source, one by one or by runs, whatever pieces it gives; and lines out of bytes.
+//! Bytes from a source, one by one or in runs, whatever pieces the source gives; and lines from bytes.
 
 ghost use Rattle.std.specs.Prelude.{◌≡◌, ◌+◌, ◌-◌, ◌<◌, ◌≤◌, [], ◌∷◌, ◌↔◌, length, take, drop, IsTrue};
 ghost use Rattle.lis_line.specs.Stock.{Stocked, GivesByte, Refills, Meets, ReadsLine};
@@ -16,7 +16,7 @@ const PIECE: usize = 65_536;
 /// How many bytes of a line are kept: one more than a line may have.
 pub const KEPT: usize = MAX_LINE + 1;
 
-/// Bytes taken and not given yet, and how many may still be given.
+/// Bytes taken from a source and not yet given, and how many may still be given.
 #[derive(Drop)]
 pub struct Stock {
     buf: [u8; PIECE],
@@ -38,13 +38,13 @@ impl Model for Stock {
     ghost invariant = { λ s. (s.start ≤ s.end) × (s.end ≤ PIECE) × (s.end - s.start ≤ s.rest) };
 }
 
-/// Where a line ended.
+/// What ended a line.
 pub enum LineEnd {
-    /// At its line feed.
+    /// Its line feed.
     Feed,
-    /// At the end of the input.
+    /// The end of the input.
     Last,
-    /// At the byte past the limit.
+    /// The byte past the limit.
     Spent,
 }
 
@@ -100,7 +100,7 @@ impl Stock {
         byte
     }
 
-    /// Takes from the source where nothing is ahead; false at the end.
+    /// Takes bytes from the source if none are ahead. The result is false at the end.
     pub fn meet<S: Source>(&mut self, source: &mut S) -> Result<bool, Failed>
         requires { 0 < self.old.rest }
         ensures meets { Meets self.old self.new (S.left source.old) (S.left source.new) result }
@@ -124,7 +124,7 @@ impl Stock {
         &self.buf[self.start..self.end]
     }
 
-    /// Gives so many of the bytes that are ahead.
+    /// Gives this many of the bytes that are ahead.
     pub fn skip(&mut self, count: usize)
         requires { count ≤ length self.old.ahead }
         ensures ahead { self.new.ahead ≡ drop count self.old.ahead }
@@ -134,7 +134,7 @@ impl Stock {
         self.rest -= count as u64;
     }
 
-    /// Gives the next byte; None at the end.
+    /// Gives the next byte; `None` at the end.
     pub fn next_byte<S: Source>(&mut self, source: &mut S) -> Result<Option<u8>, Failed>
         requires { 0 < self.old.rest }
         ensures gives { GivesByte self.old self.new (S.left source.old) (S.left source.new) result }

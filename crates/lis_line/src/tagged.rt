@@ -1,4 +1,4 @@
-//! Items of an input of rooms: what is said in which room.
+//! Items of an input of rooms, each with its room.
 
 ghost use Rattle.std.specs.Prelude.{◌≡◌, ℕ, ◌<◌, ◌≤◌, List, ◌∷◌, ◌++◌, length, drop, false, Option, None, Some, IsSome};
 ghost use Rattle.std.specs.Option.{option_map};
@@ -29,7 +29,7 @@ use std::marker::Model;
 /// How many bytes a tag has.
 const TAG_LEN: usize = 2;
 
-/// What an input of rooms says next, and the room in which it is said, if it is said in one.
+/// What an input of rooms has next, and its room, if it has one.
 #[derive(Drop, Debug)]
 pub struct Tagged {
     /// A number from 0 to 7.
@@ -37,7 +37,7 @@ pub struct Tagged {
     pub item: Item,
 }
 
-/// What an item of rooms asks for, as clauses have it. Code has no use for its value.
+/// What an item of rooms requests, as clauses state it. Code has no use for its value.
 pub struct AskedTagged;
 
 impl Model for AskedTagged {
@@ -50,16 +50,16 @@ impl Model for AskedTagged {
     ghost view = { λ _. record { room = None; item = bad_line } };
 }
 
-/// What a segment of an input of rooms asks for.
+/// What a segment of an input of rooms requests.
 #[derive(Drop)]
 pub enum Spoken {
-    /// A line that is said in a room.
+    /// A line in a room.
     Inside(Room, Request),
-    /// A line that is said in no room, which is refused.
+    /// A line in no room, which is refused.
     Outside(Refusal),
 }
 
-/// The room in which a line is said.
+/// The room of a line.
 fn spoken_in(line: &[u8]) -> Option<Room>
     ensures { option_map (λ room. room.number) result ≡ spoken_in line.now }
 {
@@ -70,7 +70,7 @@ fn spoken_in(line: &[u8]) -> Option<Room>
     room_of(word)
 }
 
-/// What stands behind the tag of a line: its words are those after the tag.
+/// The text after the tag of a line: its words are those after the tag.
 fn behind_tag(line: &[u8]) -> &[u8]
     requires { IsSome (spoken_in line.now) }
     ensures text { result.now ≡ drop 2 (after_blanks line.now) }
@@ -80,7 +80,7 @@ fn behind_tag(line: &[u8]) -> &[u8]
     behind
 }
 
-/// What a line asks for that is said in no room; None for a line without words.
+/// What a line in no room requests; `None` for a line without words.
 fn refused(line: &[u8]) -> Option<Spoken>
     ensures { (payload : Told) → option_map (tagged_with payload) result ≡ no_room line.now }
 {
@@ -93,7 +93,7 @@ fn refused(line: &[u8]) -> Option<Spoken>
     Some(Spoken::Outside(Refusal::BadLine))
 }
 
-/// What is said behind a tag. A tag without further words is a bad line.
+/// What follows a tag. A tag without further words is a bad line.
 fn inside(room: Room, asked: Option<Request>) -> Spoken
     ensures { (payload : Told) (first : First) → option_map (item_with payload) asked ≡ first.item
         → Some (tagged_with payload result) ≡ (in_room room.number first).item }
@@ -138,7 +138,7 @@ fn take_spoken<S: Source>(
     }
 }
 
-/// What a last line without a line feed asks for.
+/// What a last line without a line feed requests.
 fn spoken_last(line: &[u8]) -> Option<Spoken>
     requires { list_any is_feed line.now ≡ false }
     ensures { option_map (tagged_with no_payload) result ≡ (first_tagged line.now).item }

@@ -1,4 +1,4 @@
-//! What the input asks for, out of a stock of bytes.
+//! What the input requests, from a stock of bytes.
 
 ghost use Rattle.std.specs.Prelude.{◌<◌, ◌≤◌, length};
 ghost use Rattle.lis_line.specs.Reading.{GivesAsked};
@@ -11,9 +11,9 @@ use lis_ports::{Failed, Source};
 
 /// What was taken of the input.
 pub enum Taken<R> {
-    /// A segment with its own line feed, and what it asks for.
+    /// A segment with its own line feed, and what it requests.
     Whole(R),
-    /// The last segment, which has no line feed of its own.
+    /// The last segment, which does not have its own line feed.
     Last(R),
     /// The end of the input.
     NoMore,
@@ -21,7 +21,7 @@ pub enum Taken<R> {
     PastLimit,
 }
 
-/// Takes segments up to the first that asks for something.
+/// Takes segments up to the first one that requests something.
 pub fn take_asked<I: InputItem, S: Source>(
     stock: &mut Stock,
     payload: &mut Payload,

@@ -17,7 +17,7 @@ module _ (start : Situation) where
   pub out_whole : (items : List Item) → out step start items (length items) ≡ replies_by step start items
   out_whole items = ap (replies_by step start) (take_whole items)
 
-  -- the replies to `whole` first items were shown, and the image stands for the state after as many items or after some more
+  -- the replies to the first `whole` items were shown, and the image represents the state after as many items or after some more
   pub load_at : (items : List Item) (whole count : ℕ) (image : List ℕ) → whole ≤ count → count ≤ whole + lag → count ≤ length items → Stands image (state_after step start items count)
       → LoadMoment start items image (out step start items whole)
   load_at items whole count image behind few within stands = record {
@@ -28,13 +28,13 @@ module _ (start : Situation) where
     no_less = out_begins step start items (count - lag) whole (omega (arith, few));
   }
 
-  -- before anything was carried out
+  -- before anything was run
   pub load_none : (items : List Item) (image : List ℕ) → Stands image start.state → LoadMoment start items image []
   load_none items image stands =
       subst (λ xs. LoadMoment start items image xs) (out_none step start items)
       (load_at items 0 0 image (omega arith) (omega arith) (omega arith) (subst (λ xs. Stands image (after_by step start xs).state) (sym (take_none items)) stands))
 
-  -- the image stands for the state after all items, and a front of the replies that waited was shown
+  -- the image represents the state after all items, and a prefix of the replies that waited was shown
   pub load_between : (items : List Item) (whole : ℕ) (image front rest : List ℕ) → length items ≤ whole + lag → Stands image (after_by step start items).state
       → replies_by step start items ≡ out step start items whole ++ rest → Begins front rest → LoadMoment start items image (out step start items whole ++ front)
   load_between items whole image front rest few stands all begins =
@@ -59,7 +59,7 @@ module _ (start : Situation) where
         no_less = subst (λ xs. Begins (replies_by step start xs) shown) (sym (take-append-le (m.count - lag) first others (omega (arith, within)))) m.no_less;
       }
 
-  -- and so is one of a session
+  -- and so is a moment of a session
   pub load_session : (items : List Item) (image shown : List ℕ) → SessionMoment step start items image shown → LoadMoment start items image shown
   load_session items image shown m = record {
     count = m.count;

@@ -1,4 +1,4 @@
--- How a load ends, told of its whole script.
+-- How a load ends, stated of its whole script.
 use Rattle.std.proofs.Common.{◌≡◌, ℕ, List, [], ◌++◌, Option, Some, Ok, Err, false, sym, subst, ◌∙◌, refl, append-nil}
 use Rattle.lis_ports.specs.Meaning.{Meaning}
 use Rattle.lis_ports.proofs.Moments.{adds_none}
@@ -25,7 +25,7 @@ use Rattle.lis_store.proofs.Holding.{held_fits}
 use Rattle.lis_load.proofs.Moments.{load_more, load_stopped_more}
 use Rattle.lis_load.proofs.Settling.{all_shown, shown_all}
 
--- before anything was carried out
+-- before anything was run
 pub loaded_none : (start : Loader) (m : Meaning) → start.held.items ≡ [] → start.session.store.is_broken ≡ false → IsSound start.session.store → HasLoaded start m [] start m (Ok tt)
 loaded_none start m none unbroken sound = record {
   keeps = (has_done_none step start.session m unbroken sound).keeps;
@@ -36,7 +36,7 @@ loaded_none start m none unbroken sound = record {
   };
 }
 
--- some first items, told of all
+-- some first items, stated of all
 loads_more : {start : Situation} {first items : List Item} {old new : Meaning} {end ended : Type 0} (others : List Item) → items ≡ first ++ others → Loads start first old new end → ended → Loads start items old new ended
 loads_more {start} {first} {old = old} {new} {ended = ended} others all loads is = subst (λ xs. Loads start xs old new ended) (sym all) (record {
   moments = adds_since old.shown (load_more start first others) loads.moments;
@@ -56,7 +56,7 @@ module _ (limit : ℕ) (left_before left : Option (List ℕ)) (start now : Loade
   load_keeps AtFault ended = ended.1.done.keeps
   load_keeps (Stopped fault) ended = ended.done.keeps
 
-  -- where the input was known
+  -- if the input was known
   module _ (input : List ℕ) (told : left_before ≡ Some input) where
     pub load_input : (halt : Halt End) → Halted halt → InputRead limit input left halt
     load_input AtEnd ended = let read = ended.1.read input told in (read.short, read.at_end)

@@ -1,4 +1,4 @@
--- What a loader does next, told since a start: a commit, and showing what waited for it.
+-- What a loader does next, stated since a start: a commit, and showing what waited for it.
 use Rattle.std.proofs.Common.{◌≡◌, ◌⊎◌, ℕ, ◌+◌, ◌≤◌, List, [], ◌∷◌, ◌++◌, length, take, Option, Some, None, Result, Ok, Err, IfOk, MatchResult, is_err, true, false, refl, ap, sym, subst, ◌∙◌, inl, inr, arith, append-nil}
 use Rattle.std.specs.Io.KnownBytes.{append_known}
 use Rattle.std.specs.List.{flat_map}
@@ -37,7 +37,7 @@ use Rattle.lis_load.specs.Loading.{answer, Waits, LoadEnded, HasLoaded}
 use Rattle.lis_store.proofs.Holding.{fits_held}
 use Rattle.lis_load.proofs.Moments.{out_whole, load_at, load_between, load_more, load_stopped_more}
 
--- What is done next: its moments, told since the start, that the blocks past the image stay, and how it ended.
+-- What is done next: its moments, stated since the start, that the blocks past the image stay, and how it ended.
 pub record Next (start : Situation) (items : List Item) (before : Option (List ℕ)) (old new : Meaning) (end : Type 0) : Type 0 where
   pub moments : Adds old new (Since before (LoadMoment start items))
   pub past : KeepsPast (image_blocks start.state.limits) old new
@@ -46,7 +46,7 @@ pub record Next (start : Situation) (items : List Item) (before : Option (List �
 pub next_then : {start : Situation} {items : List Item} {before : Option (List ℕ)} {a b c : Meaning} {middle end : Type 0} → Next start items before a b middle → Next start items before b c end → Next start items before a c end
 next_then first second = record { moments = adds_then first.moments second.moments; past = λ n le. second.past n le ∙ first.past n le; ended = second.ended }
 
--- behind what was done
+-- after what was done
 pub loaded_then : {start now next : Loader} {entry mid m : Meaning} {first items : List Item} {result : Result (Unit {0}) End}
     → ((from : Situation) (image shown : List ℕ) → LoadMoment from first image shown → LoadMoment from items image shown)
     → HasLoaded start entry first now mid (Ok tt) → SessionKeeps now.session mid next.session m result
@@ -65,7 +65,7 @@ loaded_then {start} {entry = entry} more done keeps one = record {
       };
 }
 
--- the same by whether there was a fault
+-- the same, by whether there was a fault
 pub matched : {start now : Loader} {entry m : Meaning} {items : List Item} (result : Result (Unit {0}) End)
     → MatchResult result (λ _. HasLoaded start entry items now m (Ok tt)) (λ fault. HasLoaded start entry items now m (Err fault)) → HasLoaded start entry items now m result
 matched (Ok u) loaded = loaded
@@ -76,7 +76,7 @@ pub matches : {start now : Loader} {entry m : Meaning} {items : List Item} (resu
 matches (Ok u) loaded = loaded
 matches (Err fault) loaded = loaded
 
--- a fault before an item that was asked for
+-- a fault before an item that was requested
 pub stopped_before : {start now : Loader} {entry m : Meaning} {first : List Item} {fault : End} (asked : Option Item) → HasLoaded start entry first now m (Err fault)
     → IfSome asked (λ item. HasLoaded start entry (first ++ item ∷ []) now m (Err fault))
 stopped_before None stopped = tt
@@ -189,7 +189,7 @@ module _ {start now next : Loader} {entry mid m : Meaning} {first : List Item} (
   commit_broke (Err (Refused refusal)) is left keeps commits = absurd (cc left)
   commit_broke (Err Disk) is left keeps commits = loaded_then (λ from image shown moment. moment) done keeps (λ from waits. committed waits next m (Unit {0}) (commits _ _ waits.holds) tt)
 
-  -- it was made, and what waited is shown
+  -- it succeeded, and what waited is shown
   pub settled : (result : Result (Unit {0}) ChangeFault) (new : Meaning) (ended : Result (Unit {0}) End) → is_err result ≡ false → SessionKeeps now.session mid next.session m (kept_up result) → CommitsAll now next mid m result
       → Answers m new (flat_map answer now.held.items) ended → IfOk ended (λ _. next.held.items ≡ []) → HasLoaded start entry first next new ended
   settled (Err refused) new ended is keeps commits answers none = absurd (cc is)

@@ -1,4 +1,4 @@
--- An item that is carried out where nothing is held back, told since a start.
+-- An item that is run if nothing is held back, stated since a start.
 use Rattle.std.proofs.Common.{◌≡◌, ℕ, List, [], ◌∷◌, ◌++◌, Option, Some, None, Result, Ok, Err, MatchResult, ap, sym, subst, ◌∙◌, inr}
 use Rattle.std.specs.Io.KnownBytes.{append_known}
 use Rattle.std.specs.Option.{IfSome}
@@ -72,7 +72,7 @@ module _ {start now : Loader} (next : Loader) {entry mid : Meaning} (m : Meaning
       (subst (λ p. OneItem (record { state = last.state; place = p }) (step (record { state = last.state; place = p }) item) mid m result (StoreFits next.session.store m) next.session.place) waits.at
       (carries last.state (store_fits_at loaded.keeps.sound fits))))
 
-  -- an item that was asked for
+  -- an item that was requested
   pub stepped : (asked : Option Item) (result : Result (Unit {0}) End) → SessionKeeps now.session mid next.session m result
       → IfSome asked (CarriesOut step (StoreFits now.session.store mid) now.session.place mid m result (StoreFits next.session.store m) next.session.place)
       → IfSome asked (λ item. MatchResult result (λ _. HasLoaded start entry (first ++ item ∷ []) next m (Ok tt)) (λ fault. HasLoaded start entry (first ++ item ∷ []) next m (Err fault)))

@@ -1,4 +1,4 @@
--- What a stop may leave of a load, and how it ends: the items of an input are carried out as in a session, with many changes to a commit.
+-- What a stop may leave of a load, and how it ends. The items of an input are run as in a session, with many changes in one commit.
 use Rattle.std.specs.Prelude.{◌≡◌, ℕ, ◌-◌, ◌≤◌, List, length, Option}
 use Rattle.std.specs.Io.KnownBytes.{append_known}
 use Rattle.lis_ports.specs.Meaning.{Meaning}
@@ -14,13 +14,13 @@ use Rattle.lis_session.specs.declared.end.End.TheVariants.{DiskFault, OutputFaul
 use Rattle.lis_session.specs.Session.{out, state_after, EachMoment}
 use Rattle.lis_session.specs.Runs.{Goes, CarriedAll, CarriedToLimit, CarriedWhole}
 
--- how many replies may wait, that of the command which is carried out among them
+-- how many replies may wait, that of the command which is being run among them
 abbrev pub lag : ℕ
 lag = 256
 
 module _ (start : Situation) (items : List Item) where
-  -- The image stands for the state after some first items. What was shown is a front of their replies, and at most `lag` of these items have
-  -- replies that were not shown whole.
+  -- The image represents the state after some first items. What was shown is a prefix of their replies, and at most `lag` of these items
+  -- have replies that were not shown whole.
   pub record LoadMoment (image shown : List ℕ) : Type 0 where
     pub count : ℕ
     pub within : count ≤ length items
@@ -28,13 +28,13 @@ module _ (start : Situation) (items : List Item) where
     pub no_more : Begins shown (out step start items count)
     pub no_less : Begins (out step start items (count - lag)) shown
 
-  -- at a fault of showing: what was shown, with the bytes as they read and with each image, is a moment of the load
+  -- at a show fault: what was shown, with the bytes as they read and with each image, is a moment of the load
   pub record LoadStopsAt (before : Option (List ℕ)) (new : Meaning) : Type 0 where
     pub bytes : List ℕ
     pub shown : new.shown ≡ append_known before bytes
     pub moment : Always new (λ image. LoadMoment image bytes)
 
-  -- after a fault of the disk the moments tell what stands
+  -- after a disk fault only the moments say what is on the disk
   abbrev pub LoadStopped : Option (List ℕ) → Meaning → End → Type 0
   LoadStopped before new DiskFault = Unit {0}
   LoadStopped before new OutputFault = LoadStopsAt before new
@@ -43,11 +43,12 @@ module _ (start : Situation) (items : List Item) where
   abbrev pub Loads : Meaning → Meaning → Type 0 → Type 0
   Loads old new end = Goes LoadMoment start.state.limits old new end
 
-  -- with no opening, and with no exception
+  -- without an opening, and without an exception
   abbrev pub FullLoadHeadline : Meaning → Meaning → Type 0
   FullLoadHeadline old new = EachMoment old new (Since old.shown LoadMoment)
 
--- How it ended, where the source had these bytes left: but for a fault in an item, or in what was held back, as a session, with all replies shown.
+-- How it ended, if the source had these bytes left at the start: as a session ends, with all replies shown, unless there was a fault in an
+-- item or in what was held back.
 abbrev pub LoadServed : Situation → ℕ → List ℕ → Option (List ℕ) → Option (List ℕ) → Meaning → Halt End → Type 0
 LoadServed start limit bytes left before new AtEnd = CarriedAll step session_cut start limit bytes left before new
 LoadServed start limit bytes left before new Limit = CarriedToLimit step session_cut start limit bytes before new

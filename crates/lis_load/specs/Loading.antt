@@ -1,4 +1,4 @@
--- What a loader has come to since a start, where it carries out the items of an input.
+-- What a loader has become since a start, when it runs the items of an input.
 use Rattle.std.specs.Prelude.{◌≡◌, ℕ, ◌+◌, ◌≤◌, List, [], ◌++◌, length, Option, Some, None, Result, Ok, Err}
 use Rattle.std.specs.Io.KnownBytes.{append_known}
 use Rattle.std.specs.List.{flat_map}
@@ -15,13 +15,13 @@ use Rattle.lis_session.specs.Session.{out, state_after}
 use Rattle.lis_load.specs.declared.loader.Loader.{Loader}
 use Rattle.lis_load.specs.Load.{lag, Loads, LoadStopped}
 
--- what a change is answered, where it may be refused
+-- the reply to a change that may be refused
 abbrev pub answer : Option Refusal → List ℕ
 answer None = ok_line
 answer (Some refusal) = refusal_line refusal
 
--- These items were carried out. The replies to `whole` first ones were shown, and those to the others wait. The images stand for the state after
--- `base` of them, and memory tells the state after all.
+-- These items were run. The replies to the first `whole` ones were shown, and those to the others wait. The images represent the state
+-- after `base` of them, and memory represents the state after all.
 pub record Waits (start : Situation) (items : List Item) (before : Option (List ℕ)) (now : Loader) (m : Meaning) : Type 0 where
   pub whole : ℕ
   pub base : ℕ
@@ -34,7 +34,7 @@ pub record Waits (start : Situation) (items : List Item) (before : Option (List 
   pub holds : StoreHolds now.session.store m (state_after step start items base) (after_by step start items).state
   pub at : now.session.place ≡ (after_by step start items).place
 
--- these items were carried out, or there was this fault in the last one, or in settling behind it
+-- these items were run, or there was this fault in the last one, or in settling after it
 abbrev pub LoadEnded : Situation → List Item → Option (List ℕ) → Loader → Meaning → Result (Unit {0}) End → Type 0
 LoadEnded start items before now m (Ok done) = Waits start items before now m
 LoadEnded start items before now m (Err fault) = LoadStopped start items before m fault

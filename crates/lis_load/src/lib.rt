@@ -1,4 +1,4 @@
-//! A load: the items of an input are carried out as in a session, with many changes to a commit, and replies come behind it.
+//! A load: the items of an input are run as in a session, with many changes in one commit, and replies come after it.
 #![tactic(auto)]
 
 pub mod loader;

@@ -1,4 +1,4 @@
-//! A session whose changes are held back, with the answers that wait for their commit.
+//! A session whose changes are held back, with the replies that wait for their commit.
 
 ghost use Rattle.std.specs.Prelude.{◌≡◌, ◌<◌, List, [], ◌∷◌, ◌++◌, length, true, Ok, Err, IfOk};
 ghost use Rattle.std.specs.List.{flat_map};
@@ -22,15 +22,15 @@ use lis_session::replies::{answer_ok, answer_refusal};
 use lis_session::session::Session;
 use lis_store::ChangeFault;
 
-/// A session whose changes are held back, and of each of them in turn why it was refused, or none where it was made. That is shown once
-/// they are committed.
+/// A session whose changes are held back. For each of them in order it keeps why the change was refused, or `None` if it was made. These
+/// replies are shown after the commit.
 #[derive(Drop)]
 pub struct Loader {
     session: Session,
     held: ArrayVec<Option<Refusal>, 256>,
 }
 
-// Shows what a change is answered.
+// Shows the reply to a change.
 fn show_answer<T: Station>(station: &mut T, refused: &Option<Refusal>) -> Result<(), End>
     ensures { Answers (T.meaning station.old) (T.meaning station.new) (answer refused.now) result }
 {
@@ -40,7 +40,7 @@ fn show_answer<T: Station>(station: &mut T, refused: &Option<Refusal>) -> Result
     }
 }
 
-// Shows what changes are answered, one after another.
+// Shows the replies to changes, one after another.
 fn show_answers<T: Station>(station: &mut T, held: &[Option<Refusal>]) -> Result<(), End>
     ensures { Answers (T.meaning station.old) (T.meaning station.new) (flat_map answer held.now) result }
 {
@@ -62,12 +62,12 @@ impl Loader {
         }
     }
 
-    /// Gives back its memory.
+    /// Frees its memory.
     pub fn close(self) {
         self.session.close();
     }
 
-    // Where as many answers wait as may, settles.
+    // Settles, if as many replies wait as may.
     fn make_room<T: Station>(&mut self, station: &mut T) -> Result<(), End>
         requires ready { IsUsable self.old.session.store (T.meaning station.old) }
         ensures ready { IfOk result (λ _. IsUsable self.new.session.store (T.meaning station.new)) }
@@ -81,7 +81,7 @@ impl Loader {
         Ok(())
     }
 
-    // Makes a change and holds it back. What it is answered waits.
+    // Makes a change and holds it back. Its reply waits.
     fn hold<T: Station>(
         &mut self,
         command: &Command,

@@ -44,7 +44,7 @@ use Rattle.lis_open.specs.declared.mounting.OpenFault.{OpenFault}
 use Rattle.lis_open.specs.declared.mounting.OpenFault.TheVariants.{TooShort, Damaged, DiskFault, NoMemory}
 use Rattle.lis_open.specs.declared.blocks.LastBlock.{LastBlock}
 
--- where there is a reason, a number is in use
+-- if there is a reason, a number is in use
 used_for : (k : Metadata) (n : ℕ) → WhyUsed k n → is_used k n ≡ true
 used_for k n (Flagged bit) = used_flagged k n bit
 used_for k n (Had slot h) = used_had k n slot h
@@ -189,7 +189,7 @@ module _ (limits : Limits) (at : ℕ → List ℕ) (words : Words) (axioms : Axi
 
 -- ---- the parts that pass their checks, and the first one that fails
 -- ---- kinds
--- no check of a kind below this one fails
+-- no check of a lower kind fails
 abbrev pub PassBelow : Limits → (ℕ → List ℕ) → ℕ → Type 0
 PassBelow limits at kind = (spot : Spot) → rank spot < kind → Fails limits at spot → ⊥
 
@@ -204,7 +204,7 @@ module _ (limits : Limits) (at : ℕ → List ℕ) where
   pub first_of_all : (kind : ℕ) (spot : Spot) → PassBelow limits at kind → IsFirst limits at kind spot → IsFirstOfAll limits at spot
   first_of_all kind spot below first = search (rules, none_before)
 
--- ---- behind words, axioms and files
+-- ---- after words, axioms and files
 -- marks of which none is set
 abbrev no_marks : Limits → List Bool
 no_marks limits = replicate (data_start limits) false
@@ -357,7 +357,7 @@ module _ (limits : Limits) (at : ℕ → List ℕ) (words : Words) (axioms : Axi
     }
 
 -- ---- how reading the parts one after another ends
--- where a part of a kind fails
+-- if a part of a kind fails
 pub kind_failed : (limits : Limits) (at : ℕ → List ℕ) (kind : ℕ) (fault : OpenFault) → PassBelow limits at kind → KindFails limits at kind fault → PartsFail limits at fault
 kind_failed limits at kind (TooShort len need) below fails = fails
 kind_failed limits at kind (Damaged spot) below fails = first_of_all limits at kind spot below fails
@@ -402,7 +402,7 @@ module _ (limits : Limits) (at : ℕ → List ℕ) (words : Words) (axioms : Axi
 pub none_recalled : (last : LastBlock) (kept : ℕ → List ℕ) → last.number ≡ None → Recalls last kept
 none_recalled last kept none = subst (λ o. IfSome o (λ n. last.bytes ≡ kept n)) (sym none) tt
 
--- what holds anyhow holds where there is no fault
+-- what holds in any case holds if there is no fault
 pub on_ok : {T E P : Type 0} (r : Result T E) → P → OnOk r P
 on_ok (Ok done) holds = holds
 on_ok (Err fault) holds = tt

@@ -115,7 +115,7 @@ pub test_word : (o : Option (List ℕ)) → is_some (test_by o) ≡ true → IsT
 test_word None some = absurd (both_ways false refl some)
 test_word (Some w) some = record { word = w; is = refl; test = some }
 
--- ---- behind the links to heads
+-- ---- after the links to heads
 module _ (words : Words) (kept : IsDict words.dict) (end : ℕ) (t : Taxonomy) (heads : LinksHeads words end t) where
   -- no test is a head
   pub heads_ordered : TestsAreOrdered words.dict t
@@ -308,7 +308,7 @@ module _ (limits : Limits) (words : Words) (first : AreFirstWords limits words l
           (acyclic_cons (declared_words words) (both.from.word, both.to.word) (axioms_of (kept_words limits words slots)) are.acyclic no_circle);
     }
 
-  -- with it these are the axioms, and their slots are spelled where they were
+  -- with it these are the axioms, and if the earlier slots are spelled by them, so is this slot
   pub axiom_on : (found : Option AxiomSlot) (next : Axioms) → k < (axiom_slots limits).count → TakesAxiom limits words k found old next
       → AreFirstAxioms limits words next (k + 1) × ((at : ℕ → List ℕ) → AxiomsAreSpelled limits at old k → IsReadAs axiom_bytes is_axiom (axiom_slots limits) at k found → AxiomsAreSpelled limits at next (k + 1))
   axiom_on None next below taken = absurd taken
@@ -370,8 +370,8 @@ pub record AxiomsTurn (journal : Held) (limits : Limits) (old now : Meaning) (be
   pub spelled : (kept : ℕ → List ℕ) → Fits journal old kept → Recalls before kept → AxiomsAreSpelled limits kept axioms end
   pub passed : (kept : ℕ → List ℕ) → Fits journal old kept → Recalls before kept → WordsAreSpelled limits kept words limits.props → (n : ℕ) → n < end → AxiomFails limits kept n → ⊥
 
--- ---- which axiom slots fail their checks, by what was read of the slots before
--- ---- what may be wrong with an axiom, by what items tell
+-- ---- which axiom slots fail their checks, by what was read of the earlier slots
+-- ---- what may be wrong with an axiom, by the words and axioms that were read
 pub second_false : (a b : Bool) → (a && b) ≡ false → a ≡ true → b ≡ false
 second_false true b bad good = bad
 second_false false b bad good = absurd cc
@@ -434,7 +434,7 @@ module _ (limits : Limits) (properties : List PropSlot) (earlier : List AxiomSlo
   why P past sides there circle (PairThere h) = there h
   why P past sides there circle (Circle p q is_p is_q chain) = circle p q is_p is_q chain
 
--- a fault is one by all words and the axioms before, whichever lists they are
+-- a fault is one by all words and the earlier axioms, whichever lists they are
 pub axiom_fault_by : (limits : Limits) (at : ℕ → List ℕ) (n : ℕ) (properties : List PropSlot) (earlier : List AxiomSlot) → AxiomFails limits at n → AreProperties limits at properties → AreFirstAxiomSlots limits at n earlier
     → (value : AxiomSlot) → IsAxiom limits at n value → HasAxiomFault limits properties earlier n value
 axiom_fault_by limits at n properties earlier fails words before value is =
@@ -465,7 +465,7 @@ module _ (limits : Limits) (at : ℕ → List ℕ) (words : Words) (first : AreF
   abbrev declared_are : declared_by properties ≡ declared_words words
   declared_are = declared_told limits words first.are first.props
 
-  -- a word has a number where it is the word of a slot
+  -- a word has a number if it is the word of a slot
   has_number : (w : List ℕ) → is_some (number_of words.dict w) ≡ has_word (words_in properties) w
   has_number w =
       same_tests (is_some (number_of words.dict w)) (has_word (words_in properties) w)
@@ -511,7 +511,7 @@ module _ (limits : Limits) (at : ℕ → List ℕ) (words : Words) (first : AreF
     abbrev Refused : Type 0
     Refused = RefusesPair limits words end left right axioms
 
-    -- where the sides are good, or else by them
+    -- if the sides are good, or if they are not
     by_sides : (P : Type 0) → (are_sides words left right ≡ false → P) → (Sides words left right → P) → P
     by_sides P bad good = ⊎_elim (λ fine. good (sides_of words left right fine)) bad (cases_Bool (are_sides words left right))
 
@@ -527,7 +527,7 @@ module _ (limits : Limits) (at : ℕ → List ℕ) (words : Words) (first : AreF
         subst (λ v. is_plain_word v ≡ true) (same_Some both.to.word w (sym both.to.is ∙ is)) both.to.plain)))
         ∙ sym (has_pair_front left right end items are.rest))
 
-    -- a chain of edges back is one of words
+    -- a chain of edges from the right side to the left is one of words
     chain_there : Sides words left right → Leads axioms.taxonomy right left → Fault
     chain_there both leads =
         let found = chain_named limits words is_dict items all_sides axioms.taxonomy tells leads.0 right left both.to.word both.to.is leads.1 in
@@ -545,7 +545,7 @@ module _ (limits : Limits) (at : ℕ → List ℕ) (words : Words) (first : AreF
         let found = leads_numbered limits words is_dict items all_sides axioms.taxonomy tells chain.0 right q p numbered chain.1 in
         subst (λ j. Leads axioms.taxonomy right j) (one_number limits words is_dict items all_sides found.0 left p found.1.named (sym (named left) ∙ is_p)) found.2
 
-    -- a pair is refused exactly where something is wrong with it
+    -- a pair is refused exactly if something is wrong with it
     pair_fault : Refused → Fault
     pair_fault (inl past) = PastLast past
     pair_fault (inr (inl bad)) = bad_sides bad

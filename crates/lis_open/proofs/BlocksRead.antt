@@ -1,4 +1,4 @@
--- The blocks of a file as they are read: those that its slot numbers, and those that its index block does.
+-- The blocks of a file as they are read: those that its slot lists, and those that its index block lists.
 use Rattle.std.proofs.Common.{rules}
 use Rattle.lis_open.proofs.Common.{◌∙◌, ℕ, List, IsTrue, ◌≡◌, sym, ap, ◌^◌, ◌<◌, ◌≤◌, Bool, Option, Some, None, [], arith, IfSome, subst, true, false, ◌++◌, length, option_map, Meaning, IsSettled, Held, Fits, Slots, slot, PropSlot, FileSlot, prop_once, Limits, are_in_range, image_blocks, few_properties, list_all-append, are_free, are_distinct, is_large, index_bytes, numbers_in, index_home, FileRecord, is_record, data_start, blocks_needed, and_parts, both_ways}
 use Rattle.lis_journal.proofs.Fitting.{fits_unchanged}
@@ -25,7 +25,7 @@ fits_after journal kept reads fits = fits_unchanged journal reads.run (reads.sam
 pub settled_after : {a b : Meaning} {bytes : List ℕ} → OnlyReads a b → IsTrue a.is_honest → IsSettled a bytes → IsSettled b bytes
 settled_after reads honest settled = search (rules)
 
--- what the last block that was read recalls of the image, a later one recalls
+-- if an earlier last block is as the disk keeps it, so is a later one
 abbrev pub StillRecalls : Held → Meaning → LastBlock → LastBlock → Type 0
 StillRecalls journal old before last = (kept : ℕ → List ℕ) → Fits journal old kept → Recalls before kept → Recalls last kept
 
@@ -34,7 +34,7 @@ StillRecalls journal old before last = (kept : ℕ → List ℕ) → Fits journa
 pub few_blocks : (limits : Limits) (blocks : ℕ) → IsTrue (are_in_range limits) → blocks ≡ image_blocks limits → blocks < 2 ^ 32
 few_blocks limits blocks range is = search (rules, few_files, mul-le-mul_left, few_properties, few_data)
 
--- what is read of a slot where nothing is staged
+-- what is read of a slot, if nothing is staged
 pub slot_read : (slots : Slots) (staged : List HomeBlock) (kept : ℕ → List ℕ) (n : ℕ) (bytes : List ℕ) → staged ≡ [] → bytes ≡ slot slots (looked staged kept) n → bytes ≡ slot slots kept n
 slot_read slots staged kept n bytes none read = read ∙ ap (λ es. slot slots (looked es kept) n) none
 
@@ -50,8 +50,8 @@ one_property limits at n a b is_a is_b = prop_once a b is_a.range is_b.range (sy
 pub one_file : (limits : Limits) (at : ℕ → List ℕ) (n : ℕ) (a b : FileSlot) → IsFile limits at n a → IsFile limits at n b → a ≡ b
 one_file limits at n a b is_a is_b = file_once limits.version a b is_a.range is_b.range (sym is_a.bytes ∙ is_b.bytes)
 
--- ---- the blocks of a file as they are read: those that its slot numbers, and those that its index block does
--- ---- records in form
+-- ---- the blocks of a file as they are read: those that its slot lists, and those that its index block lists
+-- ---- well-formed records
 pub size_of_form : (version : ℕ) (rec : FileRecord) {seen : FileRecord} → IsTrue (is_record version rec) → seen ≡ rec → seen.size ≤ 1048576
 size_of_form version rec form view = search (rules, size_fits, record_tests)
 
@@ -63,7 +63,7 @@ pub numbers_counted : {X : Type 0} (found : Option X) (items : X → List ℕ) (
     → IfSome found (λ x. (items x ≡ numbers_in (blocks_needed size) block) × (block ≡ index_bytes (items x))) → IfSome found (λ x. length (items x) ≡ blocks_needed size)
 numbers_counted found items size block some = search (rules, length-numbers_in)
 
--- what was told of its numbers as it was read, told of what is kept there
+-- what was found of its numbers when it was read, stated of what is kept there
 pub numbers_found : {X : Type 0} (found : Option X) (items : X → List ℕ) (size : ℕ) (block held : List ℕ) → block ≡ held
     → IfSome found (λ x. (items x ≡ numbers_in (blocks_needed size) block) × (block ≡ index_bytes (items x)))
     → (found ≡ None → block ≡ index_bytes (numbers_in (blocks_needed size) block) → ⊥) → AreIndexed size held (option_map items found)
@@ -77,7 +77,7 @@ large_found base slot size at home numbers blocks large is_home indexed same = s
 pub large_missed : (base : ℕ) (slot : List ℕ) (size : ℕ) (at : ℕ → List ℕ) (home : ℕ) → is_large size ≡ true → home ≡ index_home base slot → AreIndexed size (at home) None → AreReadBlocks base slot size at None
 large_missed base slot size at home large is_home none = λ indexed. subst (λ h. AreIndexed size (at h) None) is_home none (indexed large)
 
--- told by the numbers of the record
+-- by the numbers of the record
 pub read_of : (limits : Limits) (at : ℕ → List ℕ) (rec : FileRecord) {seen : FileRecord} (slot : List ℕ) (found : Option (List ℕ)) → seen ≡ rec → slot ≡ seen.blocks
     → AreReadBlocks (data_start limits) slot seen.size at found → AreReadBlocks (data_start limits) rec.blocks rec.size at found
 read_of limits at rec {seen} slot found view same are = search (rules)
@@ -87,7 +87,7 @@ read_of limits at rec {seen} slot found view same are = search (rules)
 slot_free : (taken : List Bool) (base : ℕ) (slot : List ℕ) (size : ℕ) (at : ℕ → List ℕ) → are_free taken (file_blocks base slot size at) ≡ true → are_free taken slot ≡ true
 slot_free taken base slot size at free = search (rules, and_parts, list_all-append, large_blocks, small_blocks)
 
--- where they are free, they lie within the image
+-- if they are free, they are within the image
 pub free_within : (limits : Limits) (taken : List Bool) (slot : List ℕ) → length taken ≡ limits.blocks → are_free taken slot ≡ true → IsTrue (are_within (data_start limits) (image_blocks limits) slot)
 free_within limits taken slot len free = within_if_below (data_start limits) (image_blocks limits) (length taken) slot (omega (arith, len)) (below_from_free taken slot free)
 

@@ -26,7 +26,7 @@ same_words words has = ap₂ (λ ws n. ws ++ met_tests (declared_words words) n)
 pub same_bytes : (name others bytes : List ℕ) → bytes ≡ others → HaveWordsOf name others bytes
 same_bytes name others bytes is = record { sized = ap length is; words = ap (derived_words name) is }
 
--- The blocks before this one were read into their places, and the disk was asked alone.
+-- The blocks before this one were read into their positions, and the disk was only read.
 pub record IsReadTo (old now : Meaning) (journal : Held) (base : ℕ) (ns : List ℕ) (k size : ℕ) (buf : List ℕ) : Type 0 where
   pub reads : OnlyReads old now
   pub faults : now.disk_faults ≡ old.disk_faults
@@ -52,7 +52,7 @@ module _ (journal : Held) {m : Meaning} {kept : ℕ → List ℕ} (fits : Fits j
       length-whole (λ b. kept (base + b)) ns (λ b m.
       kept_whole journal fits (base + b) (inr (omega (arith, home))) (ltb-true _ _ (all_among (λ b. nat_lt (base + b) journal.layout.blocks) ns b within m)))
 
-  -- a front that gives all words gives those of the content
+  -- a prefix that gives all words gives those of the content
   pub front_has_words : (name buf : List ℕ) (k size seen : ℕ) → IsFilled (λ b. kept (base + b)) ns k size buf → length buf ≡ size → length ns ≡ blocks_needed size
       → gives_all name (take (4096 * k) buf) seen ≡ true → HaveWordsOf name (content base ns size kept) buf
   front_has_words name buf k size seen filled sized count gives =
@@ -69,7 +69,7 @@ module _ (journal : Held) {m : Meaning} {kept : ℕ → List ℕ} (fits : Fits j
             ∙ (fronts_give_all name front (drop (4096 * k) buf) (drop (4096 * k) told) seen gives rest ∙ ap (derived_words name) (sym told_is));
       }
 
--- what was read, where nothing is staged
+-- what was read, if nothing is staged
 pub block_read : (staged : List HomeBlock) (kept : ℕ → List ℕ) (home other long size at : ℕ) (bytes : List ℕ) → staged ≡ [] → home ≡ other → long ≡ size
     → bytes ≡ take (long - at) (look staged home (kept home)) → bytes ≡ take (size - at) (kept other)
 block_read staged kept home other long size at bytes none same sized read =

@@ -1,4 +1,4 @@
--- Where blocks spell a state, no part fails its check.
+-- If blocks spell a state, no part fails its check.
 use Rattle.std.proofs.Common.{get_or-drop}
 use Rattle.lis_open.proofs.Common.{rules, ◌≡◌, ◌∙◌, refl, sym, ap, subst, inl, inr, ℕ, ◌+◌, ◌-◌, ◌<◌, ◌≤◌, nat_lt, nat_le, Bool, true, false, is_some, List, [], ◌∷◌, length, map, take, drop, get_or, slice_get, Option, Some, None, arith, option_to_list, length-drop, flat_map, ltb-true, leb-true, length-take-le, ⊎_elim, list_all, or-false, cases_lt, length-replicate, slice_get_within, get_or_from_slice_get, same_Some, Among, among_from_contains, contains_from_among, among_left, map_among, among_flat_map, block, Slots, has_bit, are_distinct, FileRecord, prop_bytes, is_prop, axiom_bytes, is_axiom, file_bytes, is_file, PropSlot, FreeProp, AxiomSlot, FreeAxiom, Pair, FileSlot, FreeFile, Used, prop_once, axiom_once, word_cmp, is_plain_word, head_bytes, among_from_has_word, among_set_of, Limits, Spot, Super, BadRecord, Property, Axiom, Word, Row, bitmap_start, image_blocks, State, description, known, is_nameable, is_assignable, property_slots, axiom_slots, file_slots, blocks_told, among_from_number, placed_at, among_place, Contents, AreSlots, word_in, words_in, word_at, all_records, spelled_state, one_array, AllApart, and_parts, both_ways, get_or_past, slice_get-get_or, flat_map_among, replayed, has_number, has_word, has_word_from_among, set_of_among, all_among, Bitmap, set_of, File, pair_cmp, has_from_among, file_of_record}
 use Rattle.lis_open.proofs.AxiomsRead.{axiom_fault_by}
@@ -313,7 +313,7 @@ module _ (limits : Limits) (contents : Contents) (at : ℕ → List ℕ) (spells
   none_fails (Bitmap n) fails = no_bit n fails
   none_fails (Row n) fails = no_row_fault n (subst (λ (c : Contents). RowFault limits at c n) (one_contents limits at fails.contents contents fails.are are_contents) fails.fault)
 
--- where blocks spell a state, no part behind the journal fails its check
+-- if blocks spell a state, no part after the journal fails its check
 pub spelled_passes : (limits : Limits) (contents : Contents) (at : ℕ → List ℕ) (s : State) (spot : Spot) → Spells limits contents at s → Fails limits at spot → ⊥
 spelled_passes limits contents at s spot spells = none_fails limits contents at (subst (λ (t : State). Spells limits contents at t) spells.state spells) spot
 
@@ -333,7 +333,7 @@ record_passes image s b stands fails =
     let none = sym fails.replays ∙ (ap (λ (l : Limits). replayed (image_layout l) image) limits ∙ stands.replays) in
     cc
 
--- an image of which a part fails its check stands for no state
+-- an image of which a part fails its check represents no state
 pub damaged : (image : List ℕ) (s : State) (spot : Spot) → Stands image s → FailsIn image spot → ⊥
 damaged image s =
     behind image (λ spot. Stands image s → FailsIn image spot → ⊥) (λ stands fails. fails s.limits (has_super image s stands)) (record_passes image s)

@@ -58,7 +58,7 @@ pub assignable_word : (words : Words) (o : Option (List ℕ)) → is_assignable_
 assignable_word words None h = absurd (both_ways false refl h)
 assignable_word words (Some w) h = (w, refl, h)
 
--- a word of whose kind there is one
+-- if an option has a word, it is not `None`
 pub some_from : (o : Option (List ℕ)) (w : List ℕ) → o ≡ Some w → IsSome o
 some_from o w is = ap is_some is
 
@@ -77,11 +77,11 @@ module _ (limits : Limits) (words : Words) (dict : IsDict words.dict) where
       ∙ (among_filter (λ word. bit_of words.declared (number_of words.dict word)) (words_of words.dict) w m).1
 
 -- ---- what words may be used for, by what is read of them
--- limits at which no fact below looks
+-- limits that do not matter to the facts below
 abbrev pub no_limits : Limits
 no_limits = record { files = 0; props = 0; blocks = 0; version = 0 }
 
--- a word is declared where its number's bit says so
+-- a word is declared exactly if its number's bit is set
 pub declared_bit : (words : Words) (word : List ℕ) → bit_of words.declared (number_of words.dict word) ≡ has_word (declared_words words) word
 declared_bit words word =
     let k = kept_words no_limits words [] in
@@ -106,7 +106,7 @@ sides limits words axioms dict end first slot left right is =
     record { from = left_word words (word_of words.dict left) both.0; to = right_word words (word_of words.dict right) both.1 }
 
 -- ---- numbers of words: each has a word, and the head of a valued word has a number too
--- the word has the number, and its head has one where it is valued
+-- the word has the number, and its head has one if the word is valued
 pub record IsNumbered (words : Words) (n : ℕ) (word : List ℕ) : Type 0 where
   pub named : word_of words.dict n ≡ Some word
   pub headed : is_valued word ≡ true → IsSome (number_of words.dict (head_bytes word))
@@ -139,7 +139,7 @@ abbrev pub file_with : Words → FileRecord → List ℕ → File
 file_with words rec bytes = record { name = rec.name; bytes = bytes; assigned = words_told words.dict rec.tags }
 
 module _ (limits : Limits) (words : Words) (dict : IsDict words.dict) where
-  -- a word that may be given has a number, and its head too
+  -- a word that may be assigned has a number, and so has its head
   given_numbered : (n : ℕ) (w : List ℕ) → word_of words.dict n ≡ Some w → is_assignable (declared_words words) w ≡ true → IsNumbered words n w
   given_numbered n w is may = elim (assignable_cases (declared_words words) w may) [
     | Plain plain m ↦ bare_numbered words n w is (plain_not_valued w plain)
@@ -169,7 +169,7 @@ module _ (limits : Limits) (words : Words) (dict : IsDict words.dict) where
           (n.0, flat_map_among (λ word. option_to_list (number_of words.dict word)) found w n.0 m (one_in (number_of words.dict w) n.0 n.1), numbered w n.0 m n.1);
     }
 
-  -- what a file has by itself is what it was given, and what is found in it
+  -- a file's own words are those assigned to it, and those found in it
   pub own_are : (rec : FileRecord) (bytes : List ℕ) → list_all (is_assignable_number words) rec.tags ≡ true → list_all (is_numbered words.dict) (found_words words rec.name bytes) ≡ true
       → AreOf words (own_numbers words.dict rec.tags (found_words words rec.name bytes)) (own_words (declared_words words) (file_with words rec bytes))
   unfolding own_numbers
@@ -189,7 +189,8 @@ module _ (limits : Limits) (words : Words) (dict : IsDict words.dict) where
   tag_owned rec bytes n m = among_left rec.tags (numbers_of words.dict (found_words words rec.name bytes)) n m
 
 -- ---- the numbers that the words of a file lead to are those of the words of its description
--- ---- chains of links between words that have numbers are chains of edges between their numbers. A head without a number ends a chain of words, and so each word here has a number, and its head too
+-- ---- chains of links between words with numbers are chains of edges between these numbers; a head without a number ends a chain of words,
+-- so each word here has a number, and so has its head
 module _ (limits : Limits) (words : Words) (dict : IsDict words.dict) (axioms : List AxiomSlot)
     (sides : (slot left right : ℕ) → slice_get axioms slot ≡ Some (Pair left right) → Sides words left right) where
   abbrev k : Metadata
@@ -219,7 +220,7 @@ module _ (limits : Limits) (words : Words) (dict : IsDict words.dict) (axioms : 
           let both = only_pair (word_of words.dict p) (word_of words.dict q) e is in
           (place.0, p, q, place.1, both.0, both.1)
 
-  -- the sides of an axiom have numbers, with their heads
+  -- the sides of an axiom have numbers, and so have their heads
   pub left_numbered : (slot p q : ℕ) (l : List ℕ) → slice_get axioms slot ≡ Some (Pair p q) → word_of words.dict p ≡ Some l → IsNumbered words p l
   left_numbered slot p q l at is =
       let from = (sides slot p q at).from in
@@ -250,7 +251,7 @@ module _ (limits : Limits) (words : Words) (dict : IsDict words.dict) (axioms : 
           let number = some_number (number_of words.dict r) (declared_numbered limits words dict r weaker.to) in
           (number.0, bare_numbered words number.0 r (word_from_number words.dict dict r number.0 number.1) (test_not_valued r (weaker_tests_are (declared_words words) p r weaker).1))
 
-  -- a number whose word the number before it links to
+  -- a number to whose word the previous number's word links
   pub record NumberedLink (n : ℕ) (r : List ℕ) : Type 0 where
     pub number : ℕ
     pub is : IsNumbered words number r
@@ -333,7 +334,7 @@ module _ (dict : Dict) (is_dict : IsDict dict) where
   abbrev word_list : ℕ → List (List ℕ)
   word_list n = option_to_list (word_of dict n)
 
-  -- numbers of which none stands twice have as many words, of which none does
+  -- numbers without repeats have as many words, without repeats
   told_once : (ns : List ℕ) → AllApart ns → ((n : ℕ) → Among ns n → (w : List ℕ) × (word_of dict n ≡ Some w)) → AllApart (flat_map word_list ns) × (length (flat_map word_list ns) ≡ length ns)
   told_once [] apart named = (tt, refl)
   told_once (n ∷ ns) apart named =
@@ -346,7 +347,7 @@ module _ (dict : Dict) (is_dict : IsDict dict) where
       let is : flat_map word_list (n ∷ ns) ≡ here.0 ∷ flat_map word_list ns = ap (λ o. option_to_list o ++ flat_map word_list ns) here.1 in
       (subst (λ (ws : List (List ℕ)). AllApart ws) (sym is) (new, rest.0), omega (arith, ap length is, rest.1))
 
--- ---- words and numbers that are of one another
+-- ---- words and numbers of one another
 module _ (words : Words) (dict : IsDict words.dict) (numbers : List ℕ) (named : List (List ℕ)) (of : AreOf words numbers named) where
   -- the words of the numbers are these
   pub told_are : words_told words.dict numbers ≡ set_of named
@@ -358,7 +359,7 @@ module _ (words : Words) (dict : IsDict words.dict) (numbers : List ℕ) (named 
       set_of_among named w (subst (λ v. Among named v) (same_Some word.0 w (sym word.2.named ∙ number.2)) word.1))
       (λ w m. let number = of.number w (among_set_of named w m) in told_among words.dict numbers number.0 w number.2.named number.1)
 
-  -- and there are as many
+  -- and there are as many words as numbers
   pub told_long : IsStrictlySortedBy nat_cmp numbers → length (words_told words.dict numbers) ≡ length numbers
   told_long sorted =
       let once = told_once words.dict dict numbers (sorted_apart nat_cmp nat_cmp_total numbers sorted) (λ n m. let word = of.word n m in (word.0, word.2.named)) in
@@ -388,7 +389,7 @@ module _ (limits : Limits) (words : Words) (axioms : Axioms) (end : ℕ) (are : 
   pub word_below : (n : ℕ) (w : List ℕ) → word_of words.dict n ≡ Some w → n < axioms.taxonomy.props
   word_below n w is = let below = number_below words.dict dict w n (number_from_word words.dict dict w n is) in omega (arith, below, are.props, first.links.props)
 
-  -- a number to which one leads has a word too, which that one's entails
+  -- a number to which another leads has a word too, which the other's word entails
   lead : (own n : ℕ) (p : List ℕ) → IsNumbered words own p → Leads axioms.taxonomy own n → (w : List ℕ) × Among (up (declared_words words) (axioms_of kept) p) w × IsNumbered words n w
   lead own n p is leads =
       let named = up_named limits words dict axioms.slots.items all_sides t tells own n p is.named leads in
@@ -396,7 +397,7 @@ module _ (limits : Limits) (words : Words) (axioms : Axioms) (end : ℕ) (are : 
       let same = one_number limits words dict axioms.slots.items all_sides found.0 n named.0 found.1.named named.1 in
       (named.0, named.2, subst (λ m. IsNumbered words m named.0) same found.1)
 
-  -- a number of the description is led to by one of the file's own
+  -- one of the file's own numbers leads to each number of the description
   led_to : (own : List ℕ) (n : ℕ) → Among (described axioms.taxonomy own) n → (m : ℕ) × Among own m × Leads axioms.taxonomy m n
   led_to own n m = search (rules, among_where, among_from_any, entails_decides)
 
@@ -430,7 +431,7 @@ module _ (limits : Limits) (words : Words) (axioms : Axioms) (end : ℕ) (are : 
     pub file_are : AreOf words (described axioms.taxonomy (own_numbers words.dict rec.tags (found_words words rec.name bytes))) (entailed (own_words (declared_words words) (file_with words rec bytes)))
     file_are = described_are (own_numbers words.dict rec.tags (found_words words rec.name bytes)) (own_words (declared_words words) (file_with words rec bytes)) (own_are limits words dict rec bytes given numbered)
 
-    -- the words of its numbers are its description, and they are as many
+    -- the words of its numbers are its description, and there are as many words as numbers
     pub described_words : words_told words.dict (described axioms.taxonomy (own_numbers words.dict rec.tags (found_words words rec.name bytes)))
         ≡ file_words (declared_words words) (axioms_of (kept_words limits words axioms.slots.items)) (file_with words rec bytes)
     described_words = told_are words dict _ _ file_are

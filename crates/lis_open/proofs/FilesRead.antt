@@ -33,11 +33,11 @@ use Rattle.lis_open.specs.ReadFiles.RecordFault.{NotFiled, NoBlocks, NotDescribe
 use Rattle.lis_open.proofs.SpotKinds.{none_before, none_fails}
 
 -- ---- what may be filed
--- its name is new, and it may be given its words
+-- its name is new, and its words may be assigned
 may_parts : (words : Words) (files : Files) (rec : FileRecord) → may_file words files rec ≡ true → (not (is_some (slot_of files.catalog rec.name)) ≡ true) × (list_all (is_assignable_number words) rec.tags ≡ true)
 may_parts words files rec may = and_parts (not (is_some (slot_of files.catalog rec.name))) (list_all (is_assignable_number words) rec.tags) may
 
--- a number that may be given has a word, and so it is below the limit
+-- a number whose word may be assigned has a word, and so it is below the limit
 pub assignable_some : (words : Words) (o : Option (List ℕ)) → is_assignable_by words o ≡ true → is_some o ≡ true
 assignable_some words None may = cc
 assignable_some words (Some word) may = refl
@@ -60,7 +60,7 @@ pub no_files_yet : (limits : Limits) (words : Words) (axioms : Axioms) → AreFi
 unfolding no_files
 no_files_yet limits words axioms = search (rules, length-replicate, nothing_at)
 
--- what blocks tell of the files so far
+-- what blocks say of the files so far
 pub record AreSoFar (limits : Limits) (at : ℕ → List ℕ) (words : Words) (axioms : Axioms) (files : Files) (end : ℕ) : Type 0 where
   pub spelled : FilesAreSpelled limits at files end
   pub numbered : FilesAreNumbered limits at words axioms files
@@ -95,7 +95,7 @@ module _ (limits : Limits) (MayBeKept : (ℕ → List ℕ) → Type 0) (words : 
   new_name : slot_of files.catalog rec.name ≡ None
   new_name = new_from (slot_of files.catalog rec.name) tests.0
 
-  -- each file so far has a slot, so that there is room for it
+  -- each file so far has its own slot, so there is room for this one
   catalog_more : IsCatalog (with_filed files.catalog number rec)
   catalog_more =
       catalog_then files.catalog first.catalog number rec new_name (record_tests limits.version rec form).name (omega (arith, lt, first.slots)) free_slot (omega (arith, first.counted, lt, first.slots))
@@ -179,7 +179,7 @@ module _ (limits : Limits) (MayBeKept : (ℕ → List ℕ) → Type 0) (words : 
     in_new : (n : ℕ) → has_number (blocks_told limits at rec) n ≡ true → has_number took.blocks n ≡ true
     in_new n has = ap (λ ns. has_number ns n) told.blocks_are ∙ has
 
-    -- and so it is that of no old file
+    -- and so no old file has it
     not_both : (n slot : ℕ) (r : FileRecord) → has_number (blocks_told limits at rec) n ≡ true → rec_at files.catalog slot ≡ Some r → has_number (blocks_told limits at r) n ≡ true → ⊥
     not_both n slot r here is there = both_ways (is_taken files.map n) (was_free n (in_new n here)) (old.taken slot r n is there)
 
@@ -247,7 +247,7 @@ pub record FilesTurn (journal : Held) (limits : Limits) (words : Words) (axioms 
   pub so_far : (kept : ℕ → List ℕ) → Fits journal old kept → Recalls last_old kept → AreSoFar limits kept words axioms files end
 
 -- ---- what is wrong with a file slot that is not taken, and that nothing is wrong with those that are
--- a test that some member does not pass
+-- a member that fails a test
 failing : {X : Type 0} (test : X → Bool) (xs : List X) → list_all test xs ≡ false → (x : X) × Among xs x × (test x ≡ false)
 failing test [] fails = absurd cc
 failing test (x ∷ xs) fails = search (rules, and_cases, failing test xs)
@@ -256,7 +256,7 @@ used_slot : (o : Option FileRecord) (rec : FileRecord) → file_by o ≡ Used re
 used_slot None rec is = cc
 used_slot (Some r) rec is = cc
 
--- ---- an index block is in form or not
+-- ---- an index block is well formed or malformed
 index_or_not : (limits : Limits) (at : ℕ → List ℕ) (rec : FileRecord) → HasIndex limits at rec ⊎ (HasIndex limits at rec → ⊥)
 index_or_not limits at rec =
     let held = at (index_home (data_start limits) rec.blocks) in
@@ -294,7 +294,7 @@ module _ (limits : Limits) (words : Words) (axioms : Axioms) (files : Files) (en
       ∙ described_words limits words axioms (axiom_slots limits).count are links f.rec (bytes_told limits at f.rec) (first.given f.slot f.rec is) has.numbered
 
   module _ (at : ℕ → List ℕ) (told : WordsAreSpelled limits at words limits.props) (pairs : AxiomsAreSpelled limits at axioms (axiom_slots limits).count) (spelled : FilesAreSpelled limits at files end) where
-    -- the words that are found in a record's file, and the numbers of what it has by itself
+    -- the words that are found in a record's file, and its own numbers
     abbrev in_file : FileRecord → List (List ℕ)
     in_file rec = found_words words rec.name (bytes_told limits at rec)
 
@@ -325,7 +325,7 @@ module _ (limits : Limits) (words : Words) (axioms : Axioms) (files : Files) (en
         ∙ (ap (λ pairs. file_words (declared_by properties) pairs (file_told limits words.dict at f)) (sym (axioms_told limits words are.are are.props items))
         ∙ ap (file_words (declared_by properties) (axioms_by properties items)) (sym (file_is_told limits words are.are are.props at f)))
 
-    -- and so are the words of its numbers, where it may be given its words and those that are found in it have numbers
+    -- and so are the words of its numbers, if its words may be assigned and those that are found in it have numbers
     description_is : (rec : FileRecord) → list_all (is_assignable_number words) rec.tags ≡ true → list_all (is_numbered words.dict) (in_file rec) ≡ true
         → words_told words.dict (described axioms.taxonomy (own rec)) ≡ description_by limits properties items at rec
     description_is rec given numbered =
@@ -374,7 +374,7 @@ module _ (limits : Limits) (words : Words) (axioms : Axioms) (files : Files) (en
       ]) refl
           (file_fault_by limits at n properties items fails (are_told limits words are.are are.props at told) (are_axioms limits at words are told axioms links pairs) (record_at files.catalog n) (file_is n lt fails.below))
 
-      -- where all slots were read, no check of a file fails
+      -- if all slots were read, no check of a file fails
       pub files_pass : end ≡ limits.files → (spot : Spot) → rank spot ≡ 4 → Fails limits at spot → ⊥
       files_pass all = none_fails limits at 4 (λ n fails. file_passes n (omega (arith, fails.below, all)) fails)
 
@@ -412,7 +412,7 @@ module _ (limits : Limits) (words : Words) (axioms : Axioms) (files : Files) (en
         ⊎_elim (λ indexed. ⊎_elim (λ distinct. ⊎_elim (λ free. absurd (fails (record { indexed = indexed; free = free; distinct = distinct })))
         (block_fault rec blocks below) (cases_Bool (are_free files.map told_blocks))) BlockTwice (cases_Bool (are_distinct told_blocks))) IndexUnformed (index_or_not limits at rec)
 
-    -- a word that the file has by itself is in its description, and so is the head of a valued one
+    -- the words that are found in a file, and all that they entail, are in its description
     found_there : (rec : FileRecord) (w q : List ℕ) → Among (in_file rec) w → Among (up (declared_words words) (axioms_of (kept_words limits words items)) w) q → has_word (description_by limits properties items at rec) q ≡ true
     found_there rec w q m entails =
         let file = file_told limits words.dict at (record { slot = 0; rec = rec }) in

@@ -65,7 +65,7 @@ described_in t tags numbers props same is k d lt =
     omega (arith, below, same)
 
 -- ---- what the derived words of a file entail, gathered word by word, and the numbers of its description
--- the first k of the derived words have numbers, and the row has what these entail
+-- the first k derived words have numbers, and the row has what these entail
 pub record WordsGathered (words : Words) (t : Taxonomy) (derived : List (List ℕ)) (old row : Rows) (k : ℕ) : Type 0 where
   pub gathered : Gathered t old row (numbers_of words.dict (take k derived))
   pub all : list_all (is_numbered words.dict) (take k derived) ≡ true
@@ -88,11 +88,11 @@ words_more words t derived old row new k word n was lt here has is one = record 
 
 -- ---- the description
 module _ (words : Words) (t : Taxonomy) (rec : FileRecord) (in_file : List (List ℕ)) where
-  -- it is not had where a word that is found in the file has no number
+  -- the file has none if a word that is found in it has no number
   pub undescribed : list_all (is_numbered words.dict) in_file ≡ false → may_describe words t rec in_file ≡ false
   undescribed none = ap (λ b. b && nat_le (length (described t (own_numbers words.dict rec.tags in_file))) 128) none
 
-  -- and else it depends on how many numbers it has
+  -- and otherwise it depends on how many numbers it has
   pub listed_described : (listed : Option (List ℕ)) → list_all (is_numbered words.dict) in_file ≡ true → AreListed (described t (own_numbers words.dict rec.tags in_file)) listed
       → AreDescribed words t rec in_file listed
   listed_described listed all many = search (rules, lt-leb, and_from, le-leb)
@@ -141,11 +141,11 @@ module _ (words : Words) (dict : IsDict words.dict) (size : ℕ) where
       and_from (is_some (number_of words.dict w)) (not (is_valued w) || is_some (number_of words.dict (head_bytes w))) (declared_numbered no_limits words dict w both.0)
       (or_left (not (is_valued w)) (is_some (number_of words.dict (head_bytes w))) (ap not (test_not_valued w (met_is_test (test_of w) size both.1)))))
 
-  -- where the derived words have numbers, all that are found have them
+  -- if the derived words have numbers, all that are found have them
   pub found_numbered : (derived : List (List ℕ)) → list_all (is_numbered words.dict) (derived ++ met_tests (declared_words words) size) ≡ list_all (is_numbered words.dict) derived
   found_numbered derived = list_all-append (is_numbered words.dict) derived met ∙ (ap (λ b. list_all (is_numbered words.dict) derived && b) met_numbered ∙ and-true (list_all (is_numbered words.dict) derived))
 
-  -- what a file has by itself is what it was given, what is derived, and the tests that it meets
+  -- a file's own numbers are those of its assigned words, of its derived words, and of the tests that it meets
   pub found_gathered : (t : Taxonomy) (tags : List ℕ) (derived : List (List ℕ)) (old given row new : Rows) → Gathered t old given tags → Gathered t given row (numbers_of words.dict derived)
       → Gathered t row new (numbers_of words.dict (met_tests (declared_words words) size)) → Gathered t old new (own_numbers words.dict tags (derived ++ met_tests (declared_words words) size))
   unfolding own_numbers

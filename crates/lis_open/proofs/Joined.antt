@@ -193,7 +193,7 @@ module _ (limits : Limits) (words : Words) (axioms : Axioms) (files : Files) (ma
         number_told metadata metadata_are (numbers_at files.ext slot) n w is
         ∙ (ap (λ ws. has_word ws w) (told_are words read.words_are.are.dict _ _ (slot_are limits words axioms files marks read slot rec there)) ∙ (test_described metadata metadata_are (draft_of file) given (derived_own file.name file.bytes) n w is test ∙ ap (is_met (test_of w)) numbers.sized))
 
-    -- it was given none
+    -- no test is assigned to it
     untested : (n : ℕ) → has_number rec.tags n ≡ true → is_some (test_by (word_of words.dict n)) ≡ false
     untested n tag =
         let m = among_from_number rec.tags n tag in
@@ -215,8 +215,8 @@ module _ (limits : Limits) (words : Words) (axioms : Axioms) (files : Files) (ma
       let whole : IsTrue (are_whole journal.staged) = ap are_whole staged in
       assumption (metadata_are, metadata_tests, metadata_free limits words axioms files marks read range clean, metadata_closed limits words axioms files marks read range clean, metadata_in_use limits words axioms files marks read range clean, few, whole)
 
--- ---- what was read and checked tells a state
--- ---- where pairs stand below an end only, they are no more than the places below it
+-- ---- what was read and checked represents a state
+-- ---- if pairs are only at indexes below an end, there are at most as many as such indexes
 few_pairs : (dict : Dict) (end : ℕ) (xs : List AxiomSlot) (first : ℕ) → ((n left right : ℕ) → slice_get xs n ≡ Some (Pair left right) → first + n < end) → length (pairs_told dict xs) ≤ end - first
 few_pairs dict end [] first below = omega arith
 few_pairs dict end (FreeAxiom ∷ xs) first below =

@@ -26,7 +26,7 @@ zero_row n bit none = sym (bytes_none n bit none)
 pub no_file_has : (e : Ext) (files number : ℕ) → length e.sets ≡ files → ((slot : ℕ) → has e number slot ≡ false) → row_bytes e number ≡ zeros (files / 8)
 no_file_has e files number count none = ap (λ n. bits_bytes (n / 8) (has e number)) count ∙ zero_row (files / 8) (has e number) none
 
--- it is what bytes are that are all zero
+-- it equals bytes that are all zero
 pub zeros_decide : (e : Ext) (files number : ℕ) (bytes : List ℕ) (all : Bool) → length e.sets ≡ files → length bytes ≡ files / 8 → ((slot : ℕ) → has e number slot ≡ false)
     → all ≡ list_all (λ b. b == 0) bytes → IsTrue all ↔ (bytes ≡ row_bytes e number)
 zeros_decide e files number bytes all count width none is = search (rules, zeros_of, no_file_has, zeros_pass)
@@ -45,7 +45,7 @@ SameBelow limits kept ext end = (q : ℕ) → q < end → IsRowSpelled limits ke
 pub row_place_is : (limits : Limits) (p : ℕ) → row_place limits p ≡ min p limits.props
 row_place_is limits p = grind (arith, nat_tests)
 
--- the first row that is spelled otherwise
+-- the first row that is not spelled as memory requires
 pub first_row : (limits : Limits) (kept : ℕ → List ℕ) (ext : Ext) (p place : ℕ) (same : Bool) → p < (row_slots limits).count → place ≡ min p limits.props → (IsTrue same ↔ IsRowSpelled limits kept ext p) → same ≡ false
     → SameBelow limits kept ext p → (q : ℕ) × (Row place ≡ Row (row_place limits q)) × IsFirstRow limits kept ext q
 first_row limits kept ext p place same below is test differs before = search (rules, row_place_is, both_ways)

@@ -1,4 +1,4 @@
--- Lists in whose places nothing stands twice.
+-- Lists without repeats.
 use Rattle.std.proofs.Common.{rules}
 use Rattle.std.proofs.Common.{add-one, drop-cons, Ordering, is_lt}
 use Rattle.lis_open.proofs.Common.{◌≡◌, refl, sym, ap, ap₂, subst, inl, inr, ℕ, ◌+◌, zero, suc, ◌<◌, ◌≤◌, true, ◌&&◌, List, [], ◌∷◌, length, map, take, arith, sum, length-append, ◌⊎◌, ◌∙◌, nat_lt, Bool, false, not, ◌||◌, ◌++◌, get_or, set, drop, length-set, get_or-set_other, slice_get, Some, ⊎_elim, flat_map, eqb-true, ltb-true, list_all, insert_key, Among, among_from_any, are_distinct, cases_lt, among_left, is_taken, marked, are_free, are_below, among_from_number, IsStrictlySortedBy, slice_get_within, Slots, word_cmp, file_cmp, among_place, AreSlots, AllApart, all_among, and_parts, and_from, both_ways, false_from_ne_true, get_or_past, has_number, not_true, slice_get-get_or, flat_map_among, File, cases_eq}
@@ -18,11 +18,11 @@ use Rattle.lis_graph.proofs.Sets.{sorted_nil, sorted_insert_key, members_le}
 use Rattle.lis_model.specs.Sets.{with_words}
 use Rattle.lis_open.specs.Checks.{IsSlot}
 
--- ---- numbers below a bound, none of them twice
+-- ---- distinct numbers below a bound
 pub few_below : (ns : List ℕ) (end : ℕ) → are_distinct ns ≡ true → ((n : ℕ) → Among ns n → n < end) → length ns ≤ end
 few_below ns end distinct below = search (rules, length-le_from_distinct_below, each_once, among_from_any, eqb-true)
 
--- ---- a set has no more members than were put into it
+-- ---- a set has at most as many members as were put into it
 pub more_le : {K : Type 0} (cmp : K → K → Ordering) (xs more : List K) → length (with_more cmp xs more) ≤ length xs + length more
 more_le cmp xs [] = omega arith
 more_le cmp xs (m ∷ more) = let rest = more_le cmp (insert_key cmp xs m) more in omega (arith, rest, insert_key_le cmp xs m)
@@ -47,8 +47,8 @@ rising_map cmp other f g (x ∷ xs) same = ap₂ (λ a b. a && b) (all xs) (risi
     all [] = refl
     all (y ∷ ys) = ap₂ (λ a b. a && b) (ap is_lt (same x y)) (all ys)
 
--- ---- lists of numbers of which none stands twice, and blocks that are taken
--- ---- no number twice
+-- ---- lists of distinct numbers, and blocks that are taken
+-- ---- distinct numbers
 pub apart_first : (n : ℕ) (ns : List ℕ) → are_distinct (n ∷ ns) ≡ true → (Among ns n → ⊥) × (are_distinct ns ≡ true)
 apart_first n ns distinct = search (rules, and_parts, both_ways, not_true, number_from_among)
 
@@ -64,7 +64,7 @@ distinct_behind : (ms ns : List ℕ) → are_distinct (ms ++ ns) ≡ true → ar
 distinct_behind [] ns distinct = distinct
 distinct_behind (m ∷ ms) ns distinct = distinct_behind ms ns (apart_first m (ms ++ ns) distinct).1
 
--- and so none stands twice in a piece of such a list
+-- and so the numbers of a piece of such a list are distinct
 pub distinct_piece : {X : Type 0} (piece : X → List ℕ) (xs : List X) (x : X) → Among xs x → are_distinct (flat_map piece xs) ≡ true → are_distinct (piece x) ≡ true
 distinct_piece piece [] x m distinct = absurd m
 distinct_piece piece (y ∷ ys) x (inl same) distinct = subst (λ z. are_distinct (piece z) ≡ true) same (distinct_front (piece y) (flat_map piece ys) distinct)
@@ -90,7 +90,7 @@ free_still taken (b ∷ ns) n free none =
     (ap not (get_or-set_other taken n b true false (λ e. none (inl e))) ∙ first.1))
     (free_still taken ns n parts.1 (λ m. none (inr m)))
 
--- blocks that are marked one by one: those of `left` are still to be marked
+-- blocks that are marked one by one: those of `left` remain to be marked
 pub record Marking (start now : List Bool) (all left : List ℕ) : Type 0 where
   pub marks : marked now left ≡ marked start all
   pub free : are_free now left ≡ true
@@ -106,16 +106,16 @@ module _ (start now : List Bool) (ns : List ℕ) (k : ℕ) (lt : k < length ns) 
   pub marking_on : (after : List Bool) → after ≡ set now (get_or ns k 0) true → Marking start after ns (drop (k + 1) ns)
   marking_on after is = search (rules, and_parts, at_first, apart_first, free_still)
 
--- ---- lists in whose places nothing stands twice
--- ---- places of a list
--- what is in a front is in the list, in the same place
+-- ---- lists without repeats
+-- ---- indexes of a list
+-- what is in a prefix is in the list, at the same index
 pub taken_place : {X : Type 0} (n : ℕ) (xs : List X) (j : ℕ) (x : X) → slice_get (take n xs) j ≡ Some x → (j < n) × (slice_get xs j ≡ Some x)
 taken_place zero xs j x is = absurd cc
 taken_place (suc n) [] j x is = absurd cc
 taken_place (suc n) (y ∷ ys) zero x is = (omega arith, is)
 taken_place (suc n) (y ∷ ys) (suc j) x is = let rest = taken_place n ys j x is in (omega (arith, rest.0), rest.1)
 
--- the values of slots, where each layout has one
+-- the values of slots, if each slot spells one value
 module _ {X : Type 0} (spelled : X → List ℕ) (is_in_range : X → Bool) (slots : Slots) (at : ℕ → List ℕ) (values : List X) (are : AreSlots spelled is_in_range slots at values) where
   pub slot_at : (n : ℕ) (x : X) → slice_get values n ≡ Some x → IsSlot spelled is_in_range slots at n x
   slot_at n x is =
@@ -128,7 +128,7 @@ module _ {X : Type 0} (spelled : X → List ℕ) (is_in_range : X → Bool) (slo
       let each = are.each n (get_or values n x) there in
       there ∙ ap Some (once (get_or values n x) x each.1 is.range (sym each.0 ∙ is.bytes))
 
--- ---- members of which none stands twice
+-- ---- members without repeats
 pub apart_right : {K : Type 0} (xs ys : List K) → AllApart (xs ++ ys) → AllApart ys
 apart_right [] ys apart = apart
 apart_right (x ∷ xs) ys apart = apart_right xs ys apart.1
@@ -138,7 +138,7 @@ apart_between [] ys apart k here there = here
 apart_between (x ∷ xs) ys apart k (inl same) there = apart.0 (among_right xs ys x (subst (λ j. Among ys j) (sym same) there))
 apart_between (x ∷ xs) ys apart k (inr here) there = apart_between xs ys apart.1 k here there
 
--- no two things have one part
+-- no two elements share a part
 pub part_once : {X K : Type 0} (parts : X → List K) (xs : List X) → AllApart (flat_map parts xs)
     → (j n : ℕ) (a b : X) (k : K) → j < n → slice_get xs j ≡ Some a → slice_get xs n ≡ Some b → Among (parts a) k → Among (parts b) k → ⊥
 part_once parts [] apart j n a b k lt is_a is_b has_a has_b = cc
@@ -149,7 +149,7 @@ part_once {X} parts (x ∷ xs) apart zero (suc n) a b k lt is_a is_b has_a has_b
 part_once parts (x ∷ xs) apart (suc j) (suc n) a b k lt is_a is_b has_a has_b =
     part_once parts xs (apart_right (parts x) (flat_map parts xs) apart) j n a b k (omega arith) is_a is_b has_a has_b
 
--- ---- members, as many as their set has
+-- ---- a list with as many members as its set
 module _ {K : Type 0} (cmp : K → K → Ordering) (order : IsTotalOrder cmp) (exact : CmpEqualImpliesEq cmp) where
   -- a member makes a set no longer
   old_member : (xs : List K) (k : K) → IsStrictlySortedBy cmp xs → Among xs k → length (insert_key cmp xs k) ≤ length xs
@@ -170,7 +170,7 @@ module _ {K : Type 0} (cmp : K → K → Ordering) (order : IsTotalOrder cmp) (e
   apart_by_count more full = (apart_from [] more (sorted_nil cmp order) (omega (arith, full))).0
 
 -- ---- files in the order of their names
--- a file comes into the list, or the list stays as long
+-- a file is put into the list, or the list stays as long as it is
 inserted_or_not : {K : Type 0} (cmp : K → K → Ordering) (xs : List K) (k : K) → Among (insert_key cmp xs k) k ⊎ (length (insert_key cmp xs k) ≡ length xs)
 inserted_or_not cmp [] k = inl (inl refl)
 inserted_or_not cmp (x ∷ xs) k = search (rules, inserted_or_not cmp xs k)
@@ -186,11 +186,11 @@ all_there cmp xs (x ∷ more) full k (inr m) =
     let one = insert_key_le cmp xs x in
     all_there cmp (insert_key cmp xs x) more (omega (arith, full, few, one)) k m
 
--- where the list has as many files as were put into it
+-- if the list has as many files as were put into it
 pub file_there : (files : List File) (file : File) → length (with_more file_cmp [] files) ≡ length files → Among files file → Among (with_more file_cmp [] files) file
 file_there files file full m = all_there file_cmp [] files (omega (arith, full)) file m
 
--- the names of files come into order as the files do
+-- the names of files are put into order as the files are
 pub names-more : (files more : List File) → map (λ (f : File). f.name) (with_more file_cmp files more) ≡ with_words (map (λ (f : File). f.name) files) (map (λ (f : File). f.name) more)
 names-more files [] = refl
 names-more files (f ∷ more) =

@@ -1,4 +1,4 @@
--- How opening an image ends: the super block, the journal, and the parts behind it.
+-- How opening an image ends: the super block, the journal, and the parts after it.
 use Rattle.std.proofs.Common.{slice_index_or}
 use Rattle.lis_open.proofs.Common.{rules, ◌≡◌, refl, sym, ap, ap₂, ◌∙◌, subst, inl, inr, ℕ, ◌+◌, ◌/◌, ◌≤◌, ◌<◌, nat_lt, Bool, true, false, cond, List, [], ◌++◌, map, take, replicate, Option, Some, None, IsTrue, IsSomeAnd, arith, fold, flat_map, Contains, ◌⊎◌, ◌*◌, length, Result, Ok, Err, insert_key, list_all, part, bits_bytes, block, Keeps, Slots, slot, marked, are_distinct, is_large, index_bytes, numbers_in, index_home, FileRecord, SpellsSuper, prop_bytes, is_prop, axiom_bytes, is_axiom, file_bytes, is_file, FreeFile, PropSlot, Limits, bitmap_start, data_start, image_blocks, are_in_range, State, file_cmp, blocks_needed, property_slots, axiom_slots, file_slots, row_slots, bytes_told, blocks_told, HasIndex, Contents, AreSlots, all_records, spelled_state, is_had_by, word_at, row_bit, replayed, File, file_of_record, same_Some, Meaning, IsSettled, Leaves, Held, Fits, Spot, Super, BadRecord, Tells, Stored, IsSound, contents_of, leaves_weaken, leaves_then, IsWritten, ⊎_map}
 use Rattle.std.proofs.Math.Path.{fun_ext}
@@ -30,7 +30,7 @@ use Rattle.lis_kept.specs.Image.{image_layout}
 use Rattle.lis_journal.specs.declared.layout.Layout.{Layout}
 use Rattle.lis_model.specs.Image.{properties_start}
 
--- ---- slots and bytes look at home blocks alone
+-- ---- slots and bytes depend on home blocks alone
 le_more : (m a b : ℕ) → m ≤ a → m ≤ a + b
 le_more m a b le = omega arith
 
@@ -95,7 +95,7 @@ module _ (at there : ℕ → List ℕ) (same : (n : ℕ) → properties_start �
             ∙ (spells.rows p lt
             ∙ ap (λ f. bits_bytes (limits.files / 8) (λ i. is_had_by s f (word_at contents.properties p) (slice_index_or contents.files i FreeFile))) (same_files contents.properties))
 
--- ---- images stand
+-- ---- images represent a state
 pub kept_stands : (s : State) (contents : Contents) (at : ℕ → List ℕ) (image : List ℕ) → IsTrue (are_in_range s.limits) → SpellsSuper s.limits (at 0) → Spells s.limits contents at s
     → KeptBy (image_layout s.limits) at image → Stands image s
 unfolding KeptBy Stands
@@ -113,13 +113,13 @@ kept_stands s contents at image range super spells keeps = by (replayed (image_l
       spells = same_spelled at (λ n. block n r) (λ n le. sym (keep.same n (inr le))) s.limits contents s spells;
     }
 
--- ---- how opening an image ends: the super block, the journal, and the parts behind it
--- what is said of a value that there is
+-- ---- how opening an image ends: the super block, the journal, and the parts after it
+-- what holds of an option's value, if there is one
 pub some_replay : (o : Option (List ℕ)) (P : List ℕ → Type 0) → IsSomeAnd o P → (r : List ℕ) × (o ≡ Some r) × P r
 some_replay None P is = absurd is
 some_replay (Some r) P is = (r, refl, is)
 
--- with a record that is not in form nothing is to be done
+-- with a malformed record nothing is to be done
 recovered-none : (layout : Layout) (image : List ℕ) → replayed layout image ≡ None → recovered layout image ≡ image
 unfolding recovered
 recovered-none layout image none =
@@ -216,7 +216,7 @@ module _ (old mid : Meaning) (same : IsUnchanged old mid) (len : mid.len ≡ old
   settled_before : (blocks : ℕ) → IsSettledPast blocks old → IsSettledPast blocks mid
   settled_before blocks settled image is n past = settled image (same.images.only image is) n past ∙ sym (ap (block n) same.bytes)
 
-  -- what lies past the image stays; the super block was read as `told`
+  -- what is past the image stays; the super block was read as `told`
   pub mount_past : {Fails : Type 0} (new : Meaning) (told other : Limits) → HasSuper told old.bytes → HasSuper other old.bytes → (Fails → IsSettledPast (image_blocks other) old)
       → ((Fails → IsSettledPast (image_blocks told) mid) → KeepsPast (image_blocks told) mid new) → KeepsPast (image_blocks other) old new
   mount_past {Fails} new told other super others settled keeps =
@@ -225,7 +225,7 @@ module _ (old mid : Meaning) (same : IsUnchanged old mid) (len : mid.len ≡ old
       λ failed. settled_before (image_blocks told) (subst (λ (l : Limits). IsSettledPast (image_blocks l) old) (sym is) (settled failed)) in
       subst (λ (l : Limits). KeepsPast (image_blocks l) old new) is (λ n past. keeps settles n past ∙ ap (block n) same.bytes)
 
--- ---- the super block tells the limits
+-- ---- the super block gives the limits
 -- what holds of a store that was opened over a journal
 pub record IsOpened (journal : Held) (store : Stored) : Type 0 where
   pub sound : IsSound store
@@ -241,7 +241,7 @@ module _ (old : Meaning) (limits : Limits) (super : HasSuper limits old.bytes) (
   pub state_limits : (s : State) → Stands old.bytes s → limits ≡ s.limits
   state_limits s stands = one_limits old.bytes limits s.limits super (has_super old.bytes s stands)
 
-  -- what stands for the replayed image stands for the state
+  -- an image that represents the replayed image represents the state
   pub replayed_stands : (s : State) (image : List ℕ) → Stands old.bytes s → StandsForReplayed (image_layout limits) old.bytes image → Stands image s
   unfolding Stands
   replayed_stands s image stands told =
@@ -297,7 +297,7 @@ module _ (old : Meaning) (limits : Limits) (super : HasSuper limits old.bytes) (
   pub journal_moments : (new : Meaning) → Leaves old new (λ image. old.images image ⊎ InRecovery (image_layout limits) old.bytes image) → Leaves old new (InOpening old)
   journal_moments new moments = leaves_weaken (InOpening old) moments in_opening
 
-  -- ---- the parts behind the journal
+  -- ---- the parts after the journal
   module _ (whole : length old.bytes ≡ old.len) (r : List ℕ) (replays : replayed (image_layout limits) old.bytes ≡ Some r) where
     abbrev kept : ℕ → List ℕ
     kept n = block n r
@@ -327,7 +327,7 @@ module _ (old : Meaning) (limits : Limits) (super : HasSuper limits old.bytes) (
     parts_first spot first = search (rules, fails_in, behind, no_bad_record, replayed_fails)
 
     module _ (journal : Held) (new : Meaning) (fits : Fits journal new kept) (left : Recovers old new) where
-      -- the state that a store tells
+      -- the state that a store represents
       told_stand : (store : Stored) (s : State) → IsSound store → Tells store.metadata kept s → IsWritten store.metadata kept → store.metadata.limits ≡ limits → Stands old.bytes s
       unfolding Stands
       told_stand store s sound tells written same =
@@ -377,7 +377,7 @@ module _ (old : Meaning) (limits : Limits) (super : HasSuper limits old.bytes) (
       parts_opened (Err DiskFault) opened fails = failed_opened old new
       parts_opened (Err NoMemory) opened fails = absurd fails
 
-  -- where it was mounted, and what it fits then was read
+  -- the image was mounted, and the store fits what was read
   pub store_opened : length old.bytes ≡ old.len → (journal : Held) (mid new : Meaning) (result : Result Stored OpenFault) → IsSomeAnd (replayed (image_layout limits) old.bytes) (λ r. Fits journal mid (λ n. block n r))
       → IsSettled mid (recovered (image_layout limits) old.bytes) → OnlyReads mid new → ((store : Stored) → result ≡ Ok store → IsOpened journal store)
       → ((kept : ℕ → List ℕ) → Fits journal mid kept → SpellsSuper limits (kept 0) → StoreEnded limits kept result) → Opened old new result
@@ -392,7 +392,7 @@ module _ (old : Meaning) (limits : Limits) (super : HasSuper limits old.bytes) (
   store_moments mid new still moments reads =
       leaves_then (journal_moments mid moments) (leaves_weaken (InOpening old) reads (λ image is. in_opening image (still image is)))
 
--- ---- where the image stood for a state
+-- ---- if the image represented a state
 pub moments_stand : (old new : Meaning) (s : State) → length old.bytes ≡ old.len → Stands old.bytes s → Leaves old new (InOpening old) → Leaves old new (λ image. old.images image ⊎ Stands image s)
 moments_stand old new s whole stands moments = leaves_weaken (λ image. old.images image ⊎ Stands image s) moments (λ image. ⊎_map (λ is. is) (λ told.
     let enough = needs_no_more old.bytes s (4096 * image_blocks told.0) stands (inr (told.0, told.1, refl)) in

@@ -1,4 +1,4 @@
--- Images whose first gate is closed: after a recovery, and where bytes before the gates change.
+-- Images whose first gate is closed: after a recovery, and if bytes before the gates change.
 use Rattle.std.proofs.Common.{rules}
 use Rattle.std.proofs.Common.{get_or-take}
 use Rattle.lis_open.proofs.Common.{◌≡◌, refl, sym, ap, ◌∙◌, subst, ℕ, ◌+◌, ◌*◌, ◌<◌, ◌≤◌, ◌==◌, Bool, true, false, cond, Option, Some, IsSomeAnd, List, [], ◌∷◌, length, get_or, replicate, inl, inr, arith, length-append, length-drop, length-take, list_any, part, Torn, part-torn, part-put, block, Keeps}
@@ -19,7 +19,7 @@ none_first : (gates_are : List ℕ) → list_any (λ gate. gate == 1) gates_are 
 none_first [] none = refl
 none_first (gate ∷ rest) none = (or_parts (gate == 1) (list_any (λ g. g == 1) rest) none).0
 
--- with the first gate closed no record is open
+-- if the first gate is closed no record is open
 none_open : (image : List ℕ) → is_open 0 image ≡ false → open_count image ≡ 0
 unfolding open_count
 none_open image shut = prefix_len_is (λ gate. gate == 1) (gates image) 0 0 (omega arith) (λ k lt. absurd (omega arith)) (λ lt. shut)
@@ -44,7 +44,7 @@ shut_torn at n from image low torn shut =
     ap (λ (gate : List ℕ). get_or gate 0 0 == 1) (part-torn at n from image torn 4096 64 (inr low)) ∙ shut
 
 -- ---- after a recovery
--- what is longer than the end of what was put there was so before
+-- if the image is longer than the end of what was put into it, the image before was long enough too
 put_long : (xs : List ℕ) (at : ℕ) (bytes : List ℕ) → at + length bytes < length (put xs at bytes) → at + length bytes ≤ length xs
 unfolding put
 put_long xs at bytes long = search (rules, length-append, length-take, length-drop)

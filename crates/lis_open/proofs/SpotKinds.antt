@@ -1,9 +1,9 @@
--- The parts of a kind, by their places.
+-- The parts of a kind, by their indexes.
 use Rattle.lis_open.proofs.Common.{◌≤◌, ◌≡◌, ◌∙◌, refl, ap, subst, ℕ, ◌+◌, ◌<◌, ◌==◌, cond, List, arith, Limits, Spot, Super, BadRecord, Property, Axiom, Word, Row, Bitmap}
 use Rattle.lis_model.specs.declared.spot.Spot.TheVariants.{File}
 use Rattle.lis_open.specs.Checks.{Fails, FailsReplayed, FailsIn, rank, place}
 
--- the part of a kind in a place
+-- the part of a kind at an index
 abbrev pub spot_at : ℕ → ℕ → Spot
 spot_at kind n =
     cond (kind == 0) Super (cond (kind == 1) (BadRecord n) (cond (kind == 2) (Property n) (cond (kind == 3) (Axiom n)
@@ -19,7 +19,7 @@ spot_is (Word n) = refl
 spot_is (Bitmap n) = refl
 spot_is (Row n) = refl
 
--- what holds of the super block, of a record, and of each part whose check is one of the replayed image
+-- what holds of the super block, of a record, and of each part whose check is one of the replayed image, holds of every spot
 pub behind : (image : List ℕ) (P : Spot → Type 0) → P Super → ((b : ℕ) → P (BadRecord b))
     → ((spot : Spot) → 2 ≤ rank spot → (FailsReplayed image spot → FailsIn image spot) → (FailsIn image spot → FailsReplayed image spot) → P spot) → (spot : Spot) → P spot
 behind image P super bad rest Super = super
@@ -32,7 +32,7 @@ behind image P super bad rest (Bitmap n) = rest (Bitmap n) (omega arith) (λ is.
 behind image P super bad rest (Row n) = rest (Row n) (omega arith) (λ is. is) (λ is. is)
 
 module _ (limits : Limits) (at : ℕ → List ℕ) (kind : ℕ) where
-  -- where the parts up to a place pass, none before it fails
+  -- if the parts up to an index pass, none before it fails
   pub none_before : (end : ℕ) → ((n : ℕ) → n < end → Fails limits at (spot_at kind n) → ⊥) → (spot : Spot) → rank spot ≡ kind → place spot < end → Fails limits at spot → ⊥
   none_before end pass spot is lt fails =
       pass (place spot) lt (subst (λ (s : Spot). Fails limits at s) (spot_is spot ∙ ap (λ k. spot_at k (place spot)) is) fails)

@@ -1,4 +1,4 @@
--- What opening leaves where no gate is open.
+-- What opening leaves if no gate is open.
 use Rattle.std.proofs.Common.{◌≡◌, ◌≢◌, ℕ, Bool, true, false, cond, List, Result, Ok, Err, refl, ap, subst, inl, inr}
 use Rattle.std.proofs.lemmas.Bool.{both_ways}
 use Rattle.lis_ports.specs.Meaning.{Meaning}

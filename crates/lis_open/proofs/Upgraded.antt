@@ -1,4 +1,4 @@
--- A state of version 1 and what memory keeps of it, in another version: the same in all but the limits.
+-- A state of version 1 and the metadata of it, in another version: the same except for the limits.
 use Rattle.std.proofs.Common.{rules}
 use Rattle.std.proofs.Common.{take-append-drop}
 use Rattle.lis_open.proofs.Common.{◌≡◌, sym, ap, ◌∙◌, subst, ℕ, ◌+◌, ◌≤◌, nat_le, true, Some, List, length, map, slice_get, sum, IsTrue, arith, ◌⊎◌, refl, ap₂, inl, inr, ◌*◌, ◌==◌, Bool, false, [], ◌∷◌, ◌++◌, take, drop, Result, Ok, Err, if◌then◌else◌, eq-eqb, le-leb, drop-drop, Contains, leb-true, list_all, among_from_contains, Filed, rec_at, are_distinct, Dict, FileRecord, SpellsSuper, Pair, data_start, State, description, WellFormed, Metadata, AreSound, blocks_told, Tells, Meaning, part, Torn, Always, IsSettled, Leaves, part-torn, part-put, block, Keeps, Spreads, Limits, image_blocks, Stored, IsSound, and_parts, and_from, has_number, all_among, File, IsWritten, put, always_settled, leaves_then, leaves_weaken, replayed, recovered, ⊎_map}
@@ -33,7 +33,7 @@ use Rattle.lis_kept.specs.Image.{image_layout}
 use Rattle.lis_kept.proofs.Image.{same_layout, same_blocks, same_homes}
 use Rattle.lis_model.specs.Image.{properties_start}
 
--- ---- in a version
+-- ---- a state in a version
 abbrev pub state_in : ℕ → State → State
 state_in version s = record s { limits = record s.limits { version = version } }
 
@@ -45,7 +45,7 @@ pub state_own : (s : State) → s.limits.version ≡ 1 → state_in 1 s ≡ s
 state_own s one = ap (λ version. state_in version s) (sym one)
 
 -- ---- the state, which has no large file
--- the files have at most so many bytes
+-- no file has more than this many bytes
 abbrev are_short : ℕ → List File → Type 0
 are_short most files = IsTrue (list_all (λ (file : File). nat_le (length file.bytes) most) files)
 
@@ -78,7 +78,7 @@ sound_upgraded k one sound = assumption (upgraded_in_range k.limits sound.range,
     records slot rec is =
         record_upgraded k.dict k.limits.blocks rec (subst (λ version. IsTrue (is_sound_record version k.dict k.limits.blocks rec)) one (sound.records slot rec is))
 
--- ---- what is told and what is written, where all home blocks are the same and the super block tells the version
+-- ---- what memory represents and has written, if all home blocks are the same and the super block has the version
 module _ (version : ℕ) (k : Metadata) (at there : ℕ → List ℕ) (sound : AreSound k) (same : (n : ℕ) → properties_start ≤ n → there n ≡ at n) where
   files_same : AreFilesSame k at there
   files_same f m b of = same (data_start k.limits + b) (omega arith)
@@ -110,18 +110,19 @@ module _ (version : ℕ) (k : Metadata) (at there : ℕ → List ℕ) (sound : A
       let all = written_there k at there sound.range (λ n low lt. same n low) written in
       elim [ Properties ↦ all Properties | Axioms ↦ all Axioms | Files ↦ all Files | Rows ↦ all Rows | Bitmap ↦ all Bitmap ]
 
--- ---- the gate of an image's version is written: each image of meanwhile stands for the state as before or in version 2, and the last one for that
--- ---- answers
--- the fault of an answer that was handed on
+-- ---- the gate of an image's version is written: each image meanwhile represents the state as before or in version 2, and the last one the
+-- state in version 2
+-- ---- results
+-- the fault of a result that was passed on
 pub fault_of : {S T : Type 0} {result : Result T OpenFault} {fault given other : OpenFault} → result ≡ Err fault → fault ≡ given → result ≡ Err other
     → ◌≡◌ {A = Result S OpenFault} (Err given) (Err other)
 fault_of {T = T} {fault = fault} {other = other} was is told = search (rules, was)
 
--- the disk's fault is no other one
+-- the disk's fault differs from every other one
 pub disk_alone : {T : Type 0} {result : Result T OpenFault} {told fault : OpenFault} → result ≡ Err told → told ≡ DiskFault → result ≡ Err fault → (fault ≡ DiskFault → ⊥) → ⊥
 disk_alone {told = told} {fault = fault} was is named other = other (cc)
 
--- and the answer of that fault
+-- and the result with that fault
 pub handed_on : {S T : Type 0} {result : Result T OpenFault} {fault given other : OpenFault} → result ≡ Err fault → fault ≡ given → ◌≡◌ {A = Result S OpenFault} (Err given) (Err other)
     → result ≡ Err other
 handed_on {given = given} {other = other} was is told = search (rules, was)
@@ -156,7 +157,7 @@ module _ (k : Stored) (m : Meaning) (s : State) (sound : IsSound k) (fits : Stor
     behind : drop 25 (block 0 image) ≡ drop 25 (block 0 m.bytes)
     behind = drop-take 25 4071 image ∙ (ap (take 4071) torn.after ∙ sym (drop-take 25 4071 m.bytes))
 
-    -- it stands for the state in the version that its super block tells
+    -- it represents the state in the version of its super block
     stands_in : (version : ℕ) → SpellsSuper (record s.limits { version = version }) (block 0 image) → AreSound (metadata_in version k.metadata) → WellFormed (state_in version s) → Stands image (state_in version s)
     stands_in version super sound_then formed =
         change_stands (record k { metadata = metadata_in version k.metadata }) k.journal.layout (λ n. block n image) (state_in version s) sound_then sound.free sound.pairs
@@ -178,7 +179,7 @@ module _ (k : Stored) (m : Meaning) (s : State) (sound : IsSound k) (fits : Stor
         ⊎_map stands_before stands_upgraded (super_torn s.limits (block 0 m.bytes) (block 0 image) one super_before
         (length-part 0 4096 image whole ∙ sym (length-part 0 4096 m.bytes (omega (arith, whole, torn.len)))) front behind)
 
-    -- where the byte is a 2
+    -- if the byte is a 2
     pub written_stands : part 24 1 image ≡ 2 ∷ [] → Stands image (upgraded s)
     written_stands gate_is =
         stands_upgraded (subst (λ bytes. SpellsSuper (record s.limits { version = 2 }) bytes) (sym new) (super_upgraded s.limits (block 0 m.bytes) super_before))
@@ -225,7 +226,7 @@ module _ (old mid : Meaning) (k : Stored) (sound : IsSound k) (ended : OpenEnded
   pub second_left : k.metadata.limits.version ≡ 2 → GateLeft old mid
   second_left two = gate_left true (eq-eqb left.0.version 2 (version_told ∙ two)) left.2
 
-  -- of version 2 it is what it becomes
+  -- in version 2 the state is what it becomes
   pub second_stands : k.metadata.limits.version ≡ 2 → Always mid (λ image. Stands image (upgraded s))
   second_stands two =
       let same : s ≡ upgraded s = ap (λ version. state_in version s) (sym (ap (λ (l : Limits). l.version) limits_are) ∙ two) in
@@ -243,11 +244,11 @@ module _ (old mid : Meaning) (k : Stored) (sound : IsSound k) (ended : OpenEnded
         (ap (λ (l : Limits). replayed (image_layout l) old.bytes) same ∙ stood.replays)
         (omega (arith, fits.journal.reads.holds.enough, fits.journal.reads.holds.long, ap length left.2.reads)))
 
-    -- and of an image of version 1 its gate is put
+    -- and in an image of version 1 the gate is put
     pub first_left : {new : Meaning} → IsSettled new (put mid.bytes 24 (2 ∷ [])) → GateLeft old new
     first_left {new} written = search (rules, gate_left, version_told)
 
-    -- at each moment it stands for the state as before, or in version 2
+    -- at each moment the image represents the state as before, or in version 2
     gate_moments : {new : Meaning} → Spreads mid new (Torn 24 1) → Leaves mid new (λ image. Stands image s ⊎ Stands image (upgraded s))
     gate_moments spreads =
         leaves_spread (Torn 24 1) (λ image. Stands image s ⊎ Stands image (upgraded s)) (always_settled (λ image. image ≡ mid.bytes) mid.bytes settled refl) spreads (λ from image same torn.
@@ -261,14 +262,14 @@ module _ (old mid : Meaning) (k : Stored) (sound : IsSound k) (ended : OpenEnded
         (leaves_weaken (λ image. old.images image ⊎ (Stands image t ⊎ Stands image (upgraded t))) (gate_moments spreads) (λ image is.
         inr (subst (λ (u : State). Stands image u ⊎ Stands image (upgraded u)) same is)))
 
-    -- what lies past the image stays
+    -- what is past the image stays
     pub upgrade_past : (limits : Limits) {new : Meaning} → KeepsPast (image_blocks limits) old mid → Spreads mid new (Torn 24 1) → KeepsPast (image_blocks limits) old new
     upgrade_past limits {new} past spreads n le =
         let from = spreads.reads in
         part-torn 24 1 from.0 new.bytes from.2 (4096 * n) 4096 (inr (omega (arith, le)))
         ∙ (ap (block n) (elim from.1 as (λ _. from.0 ≡ mid.bytes) [ inl image ↦ settled.only from.0 image | inr same ↦ same ]) ∙ past n le)
 
-    -- when it is written and synced, every image stands for the state in version 2
+    -- after the gate is written and synced, every image represents the state in version 2
     pub first_stands : {new : Meaning} → IsSettled new (put mid.bytes 24 (2 ∷ [])) → Always new (λ image. Stands image (upgraded s))
     first_stands written =
         let le : 25 ≤ length mid.bytes = omega (arith, fits.journal.reads.holds.enough, fits.journal.reads.holds.long) in

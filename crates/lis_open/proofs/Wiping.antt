@@ -1,4 +1,4 @@
--- All of an empty image but its first byte, and the image with it.
+-- All of an empty image except its first byte, and the image with it.
 use Rattle.std.proofs.Common.{slice_index, OnErr, take-take, take-add}
 use Rattle.lis_open.proofs.Common.{rules, ◌≡◌, ℕ, ◌+◌, ◌-◌, ◌≤◌, List, take, drop, sym, ◌∙◌, ap, arith, ◌*◌, ◌<◌, length, replicate, IsTrue, refl, ◌⊎◌, [], ◌∷◌, inl, inr, ◌==◌, ◌++◌, ap₂, subst, length-drop, OnOk, Result, Ok, Err, drop-drop, ⊎_elim, Torn, Meaning, DiskFaultEnds, block, Spreads, cases_eq, part, Always, IsSettled, part-put, Leaves, part-torn, SpellsSuper, Limits, data_start, image_blocks, are_in_range, put, always_settled, leaves_weaken, Stands, ⊎_map}
 use Rattle.std.proofs.lemmas.Bool.{eqb-false}
@@ -32,7 +32,7 @@ torn_wider at n low most from image below above torn =
           ∙ (drop-drop (low + most - (at + n)) (at + n) from ∙ ap (λ k. drop k from) rest)));
     }
 
--- ---- filling blocks with zeros, one call of the disk after another
+-- ---- filling blocks with zeros, one disk call after another
 -- the blocks from `first` up to `k` are done
 pub record HasCleared (old now : Meaning) (first end k : ℕ) : Type 0 where
   pub run : IsDiskRun old now
@@ -66,7 +66,7 @@ pub clearing_zeros : {old now next : Meaning} (first end k at : ℕ) (bytes : Li
 clearing_zeros {old} {now} {next} first end k at bytes low high is_at is_zeros far has_len long written honest n above below =
     search (rules, length_zeros, block-put, eqb-false)
 
--- ---- the first byte of an image, and what stands while it is written
+-- ---- the first byte of an image, and what holds while it is written
 one_byte : (xs : List ℕ) (b : ℕ) → length xs ≡ 1 → slice_index xs 0 ≡ b → xs ≡ b ∷ []
 one_byte [] b len is = absurd (omega arith)
 one_byte (x ∷ []) b len is = ap (λ y. y ∷ []) is
@@ -82,7 +82,7 @@ pub nameless_zero : (bytes : List ℕ) {m : Meaning} → 1 ≤ length bytes → 
 nameless_zero bytes some settled =
     always_settled IsNameless (put bytes 0 (0 ∷ [])) settled (λ is. let zero_is : ◌≡◌ {A = ℕ} 0 76 = sym (first-put bytes 0 some) ∙ is in absurd (omega arith))
 
--- ---- all of an empty image but its first byte, and the image with it
+-- ---- all of an empty image except its first byte, and the image with it
 pub rest_is : (limits : Limits) (bytes rest : List ℕ) → bytes ≡ super_bytes limits → rest ≡ drop 1 bytes → rest ≡ rest_of_super limits
 unfolding rest_of_super
 rest_is limits bytes rest is_super is_rest = is_rest ∙ ap (λ xs. drop 1 xs) is_super
@@ -93,7 +93,7 @@ length-rest limits =
     let whole : length (super_bytes limits) ≡ 4096 = length_super (version_gate limits.version) limits in
     length-drop 1 (super_bytes limits) ∙ ap (λ n. n - 1) whole
 
--- what the writes of all but the first byte lead to, one after another
+-- what the writes of all but the first byte give, one after another
 pub wiped : (limits : Limits) (end : ℕ) (start rest gate homes : List ℕ) → end ≡ data_start limits → 4096 * image_blocks limits ≤ length start → rest ≡ put start 1 (rest_of_super limits)
     → Torn 4096 4096 rest gate → AreZeros 1 2 gate → Torn 2367488 (4096 * (end - properties_start)) gate homes → AreZeros properties_start end homes → IsWiped limits homes
 wiped limits end start rest gate homes is_end long is_rest torn_gate zero_gate torn_homes zero_homes =
@@ -114,7 +114,7 @@ wiped limits end start rest gate homes is_end long is_rest torn_gate zero_gate t
       zero = part-torn 2367488 (4096 * (end - properties_start)) gate homes torn_homes 4096 4096 (inl (omega arith)) ∙ zero_gate 1 (omega arith) (omega arith);
     }
 
--- the first byte is not looked at
+-- the first byte does not matter
 pub wiped_torn : (limits : Limits) (from image : List ℕ) → IsWiped limits from → Torn 0 1 from image → IsWiped limits image
 wiped_torn limits from image is torn = record {
   rest = part-torn 0 1 from image torn 1 4095 (inr (omega arith)) ∙ is.rest;
@@ -159,7 +159,7 @@ naming_moments limits bytes range all spreads =
     leaves_spread (Torn 0 1) (IsMaking limits bytes) all spreads (λ from image is torn.
     inr (⊎_map (wiped_stands limits image range (wiped_torn limits from image is torn)) (λ none s. no_state image s none) (cases_eq (first_byte image) 76)))
 
--- with the first byte it is whole
+-- with the first byte it is complete
 pub wiped_named : (limits : Limits) (bytes : List ℕ) → IsWiped limits bytes → IsWiped limits (put bytes 0 (76 ∷ [])) × (first_byte (put bytes 0 (76 ∷ [])) ≡ 76)
 wiped_named limits bytes is =
     let some : 1 ≤ length bytes = omega (arith, is.blank.long) in
@@ -225,7 +225,7 @@ made_spreads limits first second third =
 pub moments_spare : {old new : Meaning} (limits : Limits) → IsSettled old old.bytes → Leaves old new (IsMaking limits old.bytes) → Spreads old new (KeepsSpare limits) → Leaves old new (InMaking limits old.bytes)
 moments_spare {old} limits settled moments spreads = search (rules, leaves_weaken, leaves_both)
 
--- a block that is left alone, where making failed
+-- a block that is left alone, if making failed
 pub spare_spreads : {old new : Meaning} (limits : Limits) (n : ℕ) → Spreads old new (KeepsSpare limits) → IsSpare limits n → IsSettledAt old n → block n new.bytes ≡ block n old.bytes
 spare_spreads {old} limits n spreads is settled =
     let from = spreads.reads.0 in
@@ -246,7 +246,7 @@ made_all {old} {mid} {new} limits bytes torn wiping wiped settled naming =
     always_settled (IsMade limits bytes) (put mid.bytes 0 (76 ∷ [])) settled
     (made_image limits bytes (put mid.bytes 0 (76 ∷ [])) (subst (KeepsSpare limits bytes) settled.reads after.reads) named.0 named.1)
 
--- a block that is left alone is as it was, if a crash at entry left it as it read or nothing failed
+-- a block that is left alone is as it was, if a crash at the start left it as it read or nothing failed
 pub spare_either : {old new : Meaning} {T E : Type 0} (limits : Limits) (n : ℕ) (r : Result T E) → OnOk r (Always new (IsMade limits old.bytes)) → Spreads old new (KeepsSpare limits) → IsSpare limits n → OnErr r (IsSettledAt old n)
     → block n new.bytes ≡ block n old.bytes
 spare_either limits n (Ok x) made spreads is settled = made.reads.spare n is

@@ -56,7 +56,7 @@ module _ (words : Words) (number : ℕ) (word : List ℕ) (is_declared : Bool) (
       (subst (P m (word_of words.dict m)) (sym (get_or-set_other words.declared number m is_declared false differ)) (there m differ)))
 
   module _ (limits : Limits) (first : AreFirstWords limits words number) where
-    -- each word so far has a slot, so that there is room for it
+    -- each word so far has its own slot, so there is room for this one
     first_more : IsTrue (is_property word) → IsTrue (is_prop (property_by (Some word) is_declared)) → AreFirstWords limits with_it (number + 1)
     first_more form here = record {
       are = record {
@@ -80,7 +80,7 @@ module _ (limits : Limits) (words : Words) (number : ℕ) (first : AreFirstWords
   free : word_of words.dict number ≡ None
   free = first.rest number (omega arith)
 
-  -- the words with what a slot has, which is spelled where the slots before are
+  -- the words with what a slot has, which is spelled if the earlier slots are
   abbrev AreMore : Words → PropSlot → Type 0
   AreMore next property =
       AreFirstWords limits next (number + 1)
@@ -169,17 +169,17 @@ pub record WordsTurn (journal : Held) (limits : Limits) (old now : Meaning) (bef
   pub recalls : StillRecalls journal old before last
   pub spelled : (kept : ℕ → List ℕ) → Fits journal old kept → Recalls before kept → WordsAreSpelled limits kept words end
 
--- a list of one value has it everywhere, and past its end
+-- a list of one repeated value has it at each index, and past its end
 pub nothing_at : {X : Type 0} (n k : ℕ) (x : X) → get_or (replicate n x) k x ≡ x
 nothing_at n k x =
     ⊎_elim (get_or-replicate n k x x) (λ past. get_or_past (replicate n x) k x (omega (arith, past, length-replicate n x))) (cases_lt k n)
 
--- where the words are those that nothing was read of
+-- if the words are those before anything was read
 pub first_words : (limits : Limits) (words : Words) → IsTrue (are_in_range limits) → words ≡ no_words limits → AreFirstWords limits words 0
 unfolding no_words
 first_words limits words range none = search (rules, few_properties, length-replicate, both_ways, nothing_at)
 
--- ---- the property slots that words spell, and what they tell
+-- ---- the property slots that words spell, and what they represent
 -- the property slots of all numbers
 abbrev pub told_properties : Limits → Words → List PropSlot
 told_properties limits words = map (property_at words.dict words.declared) (range_with_len 0 limits.props)

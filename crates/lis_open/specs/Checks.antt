@@ -47,7 +47,7 @@ IsFile limits at n file = IsSlot file_bytes (is_file limits.version) (file_slots
 abbrev pub AreProperties : Limits → (ℕ → List ℕ) → List PropSlot → Type 0
 AreProperties limits at properties = AreSlots prop_bytes is_prop (property_slots limits) at properties
 
--- and so are as many axiom slots, from the first one on
+-- the first `count` axiom slots are these, all of them in the layout
 abbrev pub AreFirstAxiomSlots : Limits → (ℕ → List ℕ) → ℕ → List AxiomSlot → Type 0
 AreFirstAxiomSlots limits at count axioms = AreSlots axiom_bytes is_axiom (record (axiom_slots limits) { count = count }) at axioms
 
@@ -73,7 +73,7 @@ pub record IsUsed (limits : Limits) (at : ℕ → List ℕ) (data_block : ℕ) :
   pub is : IsFile limits at slot (Used rec)
   pub has : IsTrue (has_number (blocks_told limits at rec) data_block)
 
--- ---- what they tell
+-- ---- what they represent
 -- the declared words, a set
 abbrev pub declared_by : List PropSlot → List (List ℕ)
 declared_by properties = set_of (all_declared properties)
@@ -103,7 +103,7 @@ pub record PropertyFails (limits : Limits) (at : ℕ → List ℕ) (n : ℕ) : T
 -- ---- axioms
 -- what may be wrong with the axiom of a slot, by all words and the axiom slots before it
 pub data AxiomFault (limits : Limits) (properties : List PropSlot) (earlier : List AxiomSlot) (n left right : ℕ) : Type 0 where
-  -- the slot is to be free
+  -- the slot must be free
   PastLast : limits.props ≤ n → AxiomFault limits properties earlier n left right
   -- no word has the number
   LeftUnnumbered : word_at properties left ≡ None → AxiomFault limits properties earlier n left right
@@ -118,7 +118,7 @@ pub data AxiomFault (limits : Limits) (properties : List PropSlot) (earlier : Li
       → AxiomFault limits properties earlier n left right
   -- an earlier slot has the pair
   PairThere : Contains earlier (Pair left right) → AxiomFault limits properties earlier n left right
-  -- with the earlier ones it closes a circle
+  -- with the earlier ones it closes a cycle
   Circle : (p q : List ℕ) → word_at properties left ≡ Some p → word_at properties right ≡ Some q
       → Entails (declared_by properties) (axioms_by properties earlier) q p → AxiomFault limits properties earlier n left right
 
@@ -142,12 +142,12 @@ pub data FileFault (limits : Limits) (at : ℕ → List ℕ) (properties : List 
   NameTaken : (earlier : ℕ) (other : FileRecord) → earlier < n → IsFile limits at earlier (Used other) → other.name ≡ rec.name → FileFault limits at properties axioms n rec
   -- no word has one of its numbers
   TagUnnumbered : (tag : ℕ) → IsTrue (has_number rec.tags tag) → word_at properties tag ≡ None → FileFault limits at properties axioms n rec
-  -- or one that files may not be given
+  -- a word of one of its numbers may not be assigned to files
   TagUnassignable : (tag : ℕ) (word : List ℕ) → IsTrue (has_number rec.tags tag) → word_at properties tag ≡ Some word
       → is_assignable (declared_by properties) word ≡ false → FileFault limits at properties axioms n rec
   -- there is no such block
   BlockMissing : (data_block : ℕ) → IsTrue (has_number (blocks_told limits at rec) data_block) → limits.blocks ≤ data_block → FileFault limits at properties axioms n rec
-  -- its index block is out of form
+  -- its index block is malformed
   IndexUnformed : (HasIndex limits at rec → ⊥) → FileFault limits at properties axioms n rec
   -- it uses a block twice
   BlockTwice : are_distinct (blocks_told limits at rec) ≡ false → FileFault limits at properties axioms n rec
@@ -191,20 +191,21 @@ pub record BitFails (limits : Limits) (at : ℕ → List ℕ) (n : ℕ) : Type 0
 
 -- what may be wrong with a row
 pub data RowFault (limits : Limits) (at : ℕ → List ℕ) (contents : Contents) (n : ℕ) : Type 0 where
-  -- some bit does not tell whether a file's description has the word
+  -- some bit is wrong: it does not show whether a file's description has the word
   RowWrong : n < limits.props → slot (row_slots limits) at n ≢ bits_bytes (limits.files / 8) (row_bit (spelled_state limits contents at) limits contents at n)
       → RowFault limits at contents n
-  -- something stands behind the last row
+  -- the rest of the part after the last row is not zero
   RestNotZero : n ≡ limits.props → (p : ℕ) → limits.props ≤ p → p < (row_slots limits).count → slot (row_slots limits) at p ≢ zeros (limits.files / 8)
       → RowFault limits at contents n
 
--- A row does not tell which file's description has its word, or, as the row behind the last one, the rest of the part is not zero.
+-- A row does not show which file's description has its word. Or the rest of the part is not zero, which counts as the row after the last
+-- one.
 pub record RowFails (limits : Limits) (at : ℕ → List ℕ) (n : ℕ) : Type 0 where
   pub contents : Contents
   pub are : AreContents limits at contents
   pub fault : RowFault limits at contents n
 
--- the check of a part behind the journal fails
+-- the check of a part after the journal fails
 abbrev pub Fails : Limits → (ℕ → List ℕ) → Spot → Type 0
 Fails limits at Super = ⊥
 Fails limits at (BadRecord b) = ⊥
@@ -224,7 +225,7 @@ pub record FailsReplayed (image : List ℕ) (spot : Spot) : Type 0 where
   pub replays : replayed (image_layout limits) image ≡ Some replay
   pub fails : Fails limits (λ n. block n replay) spot
 
--- the record that begins at block b is the first open one that is not in form
+-- the record that begins at block b is the first open one that is malformed
 pub record RecordFails (image : List ℕ) (b : ℕ) : Type 0 where
   pub limits : Limits
   pub super : HasSuper limits image
@@ -243,7 +244,7 @@ FailsIn image (Bitmap n) = FailsReplayed image (Bitmap n)
 FailsIn image (Row n) = FailsReplayed image (Row n)
 
 -- ---- the order of checks
--- the kinds of parts, as they come
+-- the kinds of parts, in their order
 abbrev pub rank : Spot → ℕ
 rank Super = 0
 rank (BadRecord b) = 1
@@ -254,7 +255,7 @@ rank (Word n) = 5
 rank (Bitmap n) = 6
 rank (Row n) = 7
 
--- and the parts of a kind
+-- the index of a part among those of its kind
 abbrev pub place : Spot → ℕ
 place Super = 0
 place (BadRecord b) = b

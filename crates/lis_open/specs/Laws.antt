@@ -5,6 +5,6 @@ use Rattle.lis_model.specs.State.{State}
 use Rattle.lis_store.specs.Stands.{Stands}
 use Rattle.lis_open.specs.Checks.{FailsIn}
 
--- an image of which a part fails its check stands for no state
+-- an image of which a part fails its check represents no state
 abbrev pub FailingStandsForNone : Type 0
 FailingStandsForNone = (image : List ℕ) (s : State) (spot : Spot) → Stands image s → FailsIn image spot → ⊥

@@ -21,7 +21,7 @@ first_byte image = slice_index (part 0 1 image) 0
 abbrev pub IsNameless : List ℕ → Type 0
 IsNameless image = first_byte image ≢ 76
 
--- it is as it was, or begins otherwise
+-- it is as it was, or begins with another byte
 abbrev pub IsSpared : List ℕ → List ℕ → Type 0
 IsSpared bytes image = (image ≡ bytes) ⊎ IsNameless image
 
@@ -29,7 +29,7 @@ IsSpared bytes image = (image ≡ bytes) ⊎ IsNameless image
 abbrev pub AreZeros : ℕ → ℕ → List ℕ → Type 0
 AreZeros first end image = (n : ℕ) → first ≤ n → n < end → block n image ≡ zeros BLOCK_LEN
 
--- the super block, but for its first byte
+-- the super block, except its first byte
 unfoldable pub rest_of_super : Limits → List ℕ
 rest_of_super limits = drop 1 (super_bytes limits)
 
@@ -51,14 +51,15 @@ pub record IsWiping (limits : Limits) (from image : List ℕ) : Type 0 where
   pub first : part 0 1 image ≡ part 0 1 from
   pub spare : KeepsSpare limits from image
 
--- What making leaves: the super block, zeros in the gate block and in the home blocks before the data blocks, and each other block as it was.
+-- What making leaves: the super block, zeros in the gate block and in the home blocks before the data blocks, and every other block as it
+-- was.
 pub record IsMade (limits : Limits) (bytes image : List ℕ) : Type 0 where
   pub super : block 0 image ≡ super_bytes limits
   pub gate : block 1 image ≡ zeros BLOCK_LEN
   pub homes : AreZeros properties_start (data_start limits) image
   pub spare : KeepsSpare limits bytes image
 
--- it is as it was, or stands for the empty state or for none
+-- it is as it was, or represents the empty state or no state
 abbrev pub IsMaking : Limits → List ℕ → List ℕ → Type 0
 IsMaking limits bytes image = (image ≡ bytes) ⊎ (Stands image (empty_state limits) ⊎ ((s : State) → Stands image s → ⊥))
 

@@ -21,7 +21,7 @@ use Rattle.lis_open.specs.declared.mounting.OpenFault.{OpenFault}
 use Rattle.lis_open.specs.declared.mounting.OpenFault.TheVariants.{TooShort, Damaged, DiskFault, NoMemory}
 use Rattle.lis_kept.specs.Image.{image_layout}
 
--- A disk fault comes only where the count rose, and at each other answer the count stays.
+-- The result is a disk fault only if the count rose. With every other result the count stays.
 abbrev pub HasOpenCause : {T : Type 0} → ℕ → ℕ → Result T OpenFault → Type 0
 HasOpenCause before now (Ok store) = now ≡ before
 HasOpenCause before now (Err (TooShort len need)) = now ≡ before
@@ -34,7 +34,7 @@ pub record HasSuper (limits : Limits) (image : List ℕ) : Type 0 where
   pub range : IsTrue (are_in_range limits)
   pub spelled : SpellsSuper limits (part 0 BLOCK_LEN image)
 
--- how many bytes are needed: a super block, or the image that it tells
+-- how many bytes are needed: those of a super block, or those of the image that it describes
 abbrev pub IsNeeded : List ℕ → ℕ → Type 0
 IsNeeded image need = (need ≡ BLOCK_LEN) ⊎ ((limits : Limits) × HasSuper limits image × (need ≡ BLOCK_LEN * image_blocks limits))
 
@@ -42,29 +42,29 @@ IsNeeded image need = (need ≡ BLOCK_LEN) ⊎ ((limits : Limits) × HasSuper li
 abbrev pub IsLongEnough : Meaning → Type 0
 IsLongEnough m = (need : ℕ) → IsNeeded m.bytes need → need ≤ m.len
 
--- It is too short exactly where there are fewer bytes than are needed. An image is refused exactly where it is long enough and stands for no
--- state.
+-- The disk is too short exactly if there are fewer bytes than are needed. An image is refused exactly if it is long enough and represents
+-- no state.
 abbrev pub OpenRefused : Meaning → Meaning → OpenFault → Type 0
 OpenRefused old new (TooShort len need) = (len ≡ old.len) × (len < need) × IsNeeded old.bytes need
 OpenRefused old new (Damaged spot) = IsLongEnough old × ((s : State) → Stands old.bytes s → ⊥)
 OpenRefused old new DiskFault = Unit {0}
 OpenRefused old new NoMemory = IsLongEnough old × ((limits : Limits) × HasSuper limits old.bytes) × ((s : State) → Stands old.bytes s → Stands new.bytes s)
 
--- And it is opened exactly where it stands for one, which the store then fits.
+-- And it is opened exactly if it represents a state, which the store then fits.
 abbrev pub OpenEnded : Meaning → Meaning → Result Stored OpenFault → Type 0
 OpenEnded old new (Ok store) = IsLongEnough old × ((s : State) × Stands old.bytes s × StoreFits store new s)
 OpenEnded old new (Err fault) = OpenRefused old new fault
 
--- Its journal was recovered, by the limits that the super block tells: it reads as what a recovery makes of it, and a crash leaves just this.
+-- Its journal was recovered, by the limits in the super block: the disk reads as what a recovery makes of it, and a crash leaves just this.
 abbrev pub Recovers : Meaning → Meaning → Type 0
 Recovers old new = (limits : Limits) × HasSuper limits old.bytes × IsSettled new (recovered (image_layout limits) old.bytes)
 
--- what is left where a check failed
+-- what is left if a check failed
 abbrev pub RefusedLeft : Meaning → Meaning → Type 0
 RefusedLeft old new = (((limits : Limits) → HasSuper limits old.bytes → ⊥) × IsUnchanged old new) ⊎ Recovers old new
 
--- What opening leaves where the disk did not fail: it writes nothing but what the journal of the image asks for, and nothing before it has
--- its memory.
+-- What opening leaves if the disk did not fail: it writes only what the journal of the image requires, and nothing before it has its
+-- memory.
 abbrev pub FaultLeft : Meaning → Meaning → OpenFault → Type 0
 FaultLeft old new (TooShort len need) = IsUnchanged old new
 FaultLeft old new (Damaged spot) = RefusedLeft old new
@@ -79,21 +79,21 @@ OpenLeft old new (Err fault) = FaultLeft old new fault
 abbrev pub WasLeft : Meaning → List ℕ → Type 0
 WasLeft old image = old.images image ⊎ (image ≡ old.bytes)
 
--- Nothing was written: it reads as before, and a crash leaves what it could have left before, or these bytes.
+-- Nothing was written: the disk reads as before, and a crash leaves what it could have left before, or these bytes.
 pub record Unwritten (old new : Meaning) : Type 0 where
   pub bytes : new.bytes ≡ old.bytes
   pub images : (image : List ℕ) → new.images image → WasLeft old image
 
--- What opening leaves where no gate is open: nothing is written. Where the disk failed the moments alone tell it.
+-- What opening leaves if no gate is open: nothing is written. If the disk failed, only `moments` says what is left.
 pub record OpenUnwritten (old new : Meaning) (result : Result Stored OpenFault) : Type 0 where
   pub left : result ≢ Err DiskFault → Unwritten old new
   pub moments : Leaves old new old.images
 
--- what a crash in opening leaves: what it could have left before, or an image on which records are being brought home
+-- what a crash in opening leaves: what it could have left before, or an image in the middle of a recovery
 abbrev pub InOpening : Meaning → List ℕ → Type 0
 InOpening old image = old.images image ⊎ ((limits : Limits) × HasSuper limits old.bytes × InRecovery (image_layout limits) old.bytes image)
 
--- what a fault of the journal is to opening
+-- the fault of opening that a fault of the journal becomes
 abbrev pub journal_fault : JournalFault → OpenFault
 journal_fault JournalDisk = DiskFault
 journal_fault (JournalRecord b) = Damaged (BadRecord b)

@@ -1,4 +1,4 @@
--- What is checked behind words, axioms and files, and how all parts are joined. No public clause cites this module.
+-- What is checked after words, axioms and files, and how all parts are joined. No public clause cites this module.
 use Rattle.std.specs.Prelude.{◌≡◌, ℕ, ◌≤◌, ◌<◌, nat_lt, Bool, false, not, ◌&&◌, if◌then◌else◌, is_some, Result, Ok, Err, List, length, replicate, IsTrue}
 use Rattle.lis_bits.specs.Rows.{HasShape}
 use Rattle.lis_slots.specs.Slots.{slot}
@@ -40,13 +40,13 @@ pub record IsEmptyMemory (limits : Limits) (memory : OpeningMemory) : Type 0 whe
   pub row : HasShape memory.row 1 limits.props
   pub marks : AreNoMarks limits memory.marks
 
--- what memory keeps of what was read
+-- the metadata that memory keeps of what was read
 abbrev pub metadata_in : Limits → Words → Axioms → Files → List Bool → Metadata
 metadata_in limits words axioms files marks =
     metadata_of limits words.dict words.declared axioms.slots.items files.catalog files.map files.ext marks
 
 -- ---- words in use
--- it has a word that is not in use
+-- the number has a word that is not in use
 abbrev pub is_stray : Metadata → ℕ → Bool
 is_stray k n = is_some (word_of k.dict n) && not (is_used k n)
 
@@ -77,7 +77,7 @@ BitmapChecked bytes taken (Ok done) = bytes ≡ bitmap_bytes taken
 BitmapChecked bytes taken (Err fault) = Differs bytes taken fault
 
 -- ---- rows
--- a row slot is spelled by what memory keeps, which is zeros past the last number
+-- a row slot is spelled as the metadata requires, with zeros past the last number
 abbrev pub IsRowSpelled : Limits → (ℕ → List ℕ) → Ext → ℕ → Type 0
 IsRowSpelled limits at ext p = slot (row_slots limits) at p ≡ row_bytes ext p
 
@@ -86,7 +86,7 @@ pub record IsFirstRow (limits : Limits) (at : ℕ → List ℕ) (ext : Ext) (p :
   pub differs : IsRowSpelled limits at ext p → ⊥
   pub same_before : (q : ℕ) → q < p → IsRowSpelled limits at ext q
 
--- the rows behind the last one count as one
+-- the rows after the last one count as one
 abbrev pub row_place : Limits → ℕ → ℕ
 row_place limits p = if nat_lt p limits.props then p else limits.props
 
@@ -146,7 +146,7 @@ abbrev pub PartsEnded : {T : Type 0} → Limits → (ℕ → List ℕ) → Words
 PartsEnded limits at words axioms files (Ok done) = AreSpelled limits at words axioms files
 PartsEnded limits at words axioms files (Err fault) = PartsFail limits at fault
 
--- a store that tells a state, and is written there
+-- a store that represents a state, and is written in these blocks
 pub record StoreTells (at : ℕ → List ℕ) (store : Stored) : Type 0 where
   pub state : State
   pub tells : Tells store.metadata at state

@@ -48,7 +48,7 @@ described t own = numbers_where t.props (any_entails t own)
 abbrev pub Gathered : List ℕ → List ℕ → List ℕ → Type 0
 Gathered old found numbers = (n : ℕ) → is_found found n ≡ (is_found old n || has_number numbers n)
 
--- the word has a number, and so has its head where it is valued
+-- the word has a number, and so has its head if it is valued
 abbrev pub is_numbered : Dict → List ℕ → Bool
 is_numbered dict word = is_some (number_of dict word) && (not (is_valued word) || is_some (number_of dict (head_bytes word)))
 
@@ -59,7 +59,7 @@ numbers_of dict words = flat_map (λ word. option_to_list (number_of dict word))
 abbrev pub found_words : Words → List ℕ → List ℕ → List (List ℕ)
 found_words words name bytes = derived_words name bytes ++ met_tests (declared_words words) (length bytes)
 
--- The numbers of what a file has by itself: those that it was given, and those of the words that are found in it.
+-- A file's own numbers: those of the words that are assigned to it, and those of the words that are found in it.
 unfoldable pub own_numbers : Dict → List ℕ → List (List ℕ) → List ℕ
 own_numbers dict tags found = tags ++ numbers_of dict found
 
@@ -68,18 +68,18 @@ abbrev pub may_describe : Words → Taxonomy → FileRecord → List (List ℕ) 
 may_describe words t rec found =
     list_all (is_numbered words.dict) found && nat_le (length (described t (own_numbers words.dict rec.tags found))) MAX_DESCRIPTION
 
--- the numbers of a description where a file may have it
+-- the numbers of a description, if a file may have it
 abbrev pub AreDescribed : Words → Taxonomy → FileRecord → List (List ℕ) → Option (List ℕ) → Type 0
 AreDescribed words t rec found None = may_describe words t rec found ≡ false
 AreDescribed words t rec found (Some numbers) =
     (may_describe words t rec found ≡ true) × (numbers ≡ described t (own_numbers words.dict rec.tags found))
 
--- a slot has these numbers, where these words are found in its file
+-- a slot has these numbers, if these words are found in its file
 pub record HasNumbers (words : Words) (t : Taxonomy) (rec : FileRecord) (found : List (List ℕ)) (numbers : List ℕ) : Type 0 where
   pub numbered : IsTrue (list_all (is_numbered words.dict) found)
   pub are : numbers ≡ described t (own_numbers words.dict rec.tags found)
 
--- whatever its bytes are, of which there are as many as its record says
+-- the slot has these numbers for some bytes of the file, as many as its record says
 pub record HasSomeNumbers (words : Words) (t : Taxonomy) (rec : FileRecord) (numbers : List ℕ) : Type 0 where
   pub bytes : List ℕ
   pub sized : length bytes ≡ rec.size
@@ -95,7 +95,7 @@ AreListed numbers None = MAX_DESCRIPTION < length numbers
 AreListed numbers (Some listed) = (listed ≡ numbers) × (length numbers ≤ MAX_DESCRIPTION)
 
 -- ---- records
--- the number is that of a word that files may be given
+-- the number has a word that may be assigned to files
 abbrev pub is_assignable_by : Words → Option (List ℕ) → Bool
 is_assignable_by words None = false
 is_assignable_by words (Some word) = is_assignable (declared_words words) word
@@ -103,41 +103,41 @@ is_assignable_by words (Some word) = is_assignable (declared_words words) word
 abbrev pub is_assignable_number : Words → ℕ → Bool
 is_assignable_number words n = is_assignable_by words (word_of words.dict n)
 
--- the file may be filed: its name is new, and it may be given its words
+-- the file may be filed: its name is new, and its words may be assigned
 abbrev pub may_file : Words → Files → FileRecord → Bool
 may_file words files rec = not (is_some (slot_of files.catalog rec.name)) && list_all (is_assignable_number words) rec.tags
 
 -- ---- blocks
--- What is read of a file's blocks is usable: there are such blocks, which no file before uses, and none of them stands twice.
+-- The blocks that are read for a file are usable: there are such blocks, no earlier file uses them, and none of them occurs twice.
 pub record AreUsable (taken : List Bool) (slot blocks : List ℕ) : Type 0 where
   pub own : IsTrue (are_free taken slot)
   pub free : IsTrue (are_free taken blocks)
   pub distinct : IsTrue (are_distinct blocks)
 
--- a record's index block is in form, and its blocks are usable
+-- a record's index block is well formed, and its blocks are usable
 pub record HasBlocks (limits : Limits) (at : ℕ → List ℕ) (taken : List Bool) (rec : FileRecord) : Type 0 where
   pub indexed : HasIndex limits at rec
   pub free : IsTrue (are_free taken (blocks_told limits at rec))
   pub distinct : IsTrue (are_distinct (blocks_told limits at rec))
 
--- the numbers that an index block has for so many bytes, where it is in form
+-- the numbers in an index block for this many bytes, if it is well formed
 abbrev pub AreIndexed : ℕ → List ℕ → Option (List ℕ) → Type 0
 AreIndexed size block None = block ≡ index_bytes (numbers_in (blocks_needed size) block) → ⊥
 AreIndexed size block (Some numbers) =
     (numbers ≡ numbers_in (blocks_needed size) block) × (block ≡ index_bytes (numbers_in (blocks_needed size) block))
 
--- all blocks of a file by the numbers of its slot, where its index block is in form
+-- all blocks of a file by the numbers of its slot, if its index block is well formed
 abbrev pub AreReadBlocks : ℕ → List ℕ → ℕ → (ℕ → List ℕ) → Option (List ℕ) → Type 0
 AreReadBlocks base slot size at None = IsIndexed base slot size at → ⊥
 AreReadBlocks base slot size at (Some blocks) = IsIndexed base slot size at × (blocks ≡ file_blocks base slot size at)
 
--- and where they are usable too
+-- and if they are usable too
 abbrev pub AreItsBlocks : Limits → (ℕ → List ℕ) → List Bool → FileRecord → Option (List ℕ) → Type 0
 AreItsBlocks limits at taken rec None = HasBlocks limits at taken rec → ⊥
 AreItsBlocks limits at taken rec (Some blocks) = HasIndex limits at rec × (blocks ≡ blocks_told limits at rec)
 
 -- ---- one file
--- the slot is there for a file: it has none, and no numbers
+-- the slot is free for a file: it has none, and no numbers
 pub record IsFreeSlot (files : Files) (slot : ℕ) : Type 0 where
   pub below : slot < files.catalog.files
   pub empty : rec_at files.catalog slot ≡ None
@@ -152,19 +152,20 @@ pub record TakesNumbers (slot : ℕ) (rec : FileRecord) (blocks numbers : List �
   pub sets : new.ext.sets ≡ slice_set old.ext.sets slot numbers
   pub settled : new.ext.marks ≡ []
 
--- These bytes have the words that are derived from the others, and are as many.
+-- These bytes give the same derived words as the others, and are as many.
 pub record HaveWordsOf (name others bytes : List ℕ) : Type 0 where
   pub sized : length bytes ≡ length others
   pub words : derived_words name bytes ≡ derived_words name others
 
--- The bytes that stand for those of a record's file have the words of those that are told of it, and its blocks are those that are told.
+-- The bytes taken for those of a record's file give the same derived words as the bytes that the disk keeps, and the blocks are those that
+-- the disk keeps.
 pub record AreTold (limits : Limits) (at : ℕ → List ℕ) (rec : FileRecord) (bytes blocks : List ℕ) : Type 0 where
   pub has_words : HaveWordsOf rec.name (bytes_told limits at rec) bytes
   pub indexed : HasIndex limits at rec
   pub blocks_are : blocks ≡ blocks_told limits at rec
 
--- The record's file may be taken and is, with these blocks and the words of these bytes. The blocks and the words are those that are told by
--- whatever may be kept.
+-- The record's file may be taken and is, with these blocks and the words of these bytes. The blocks and the words are those of each content
+-- that the disk may keep.
 pub record TakesRecord (limits : Limits) (MayBeKept : (ℕ → List ℕ) → Type 0) (words : Words) (t : Taxonomy) (slot : ℕ) (rec : FileRecord) (old new : Files) : Type 0 where
   pub bytes : List ℕ
   pub blocks : List ℕ
@@ -186,14 +187,14 @@ pub data RecordFault (limits : Limits) (at : ℕ → List ℕ) (words : Words) (
   NoBlocks : (HasBlocks limits at files.map rec → ⊥) → RecordFault limits at words t files rec
   NotDescribed : may_describe words t rec (found_words words rec.name (bytes_told limits at rec)) ≡ false → RecordFault limits at words t files rec
 
--- and why that of a slot is not
+-- and why the file of a slot is not taken
 abbrev pub HasSlotFault : Limits → (ℕ → List ℕ) → Words → Taxonomy → Files → Option FileSlot → Type 0
 HasSlotFault limits at words t files None = Unit {0}
 HasSlotFault limits at words t files (Some FreeFile) = ⊥
 HasSlotFault limits at words t files (Some (Used rec)) = RecordFault limits at words t files rec
 
 -- ---- files
--- Files of the slots below the end, which may be given their words; and the slots have the numbers of the descriptions.
+-- Files of the slots below the end. Their words may be assigned, and the slots have the numbers of their descriptions.
 pub record AreFirstFiles (limits : Limits) (words : Words) (axioms : Axioms) (files : Files) (end : ℕ) : Type 0 where
   pub slots : files.catalog.files ≡ limits.files
   pub catalog : IsCatalog files.catalog
@@ -212,7 +213,7 @@ abbrev pub FilesAreSpelled : Limits → (ℕ → List ℕ) → Files → ℕ →
 FilesAreSpelled limits at files end =
     (n : ℕ) → n < end → slot (file_slots limits) at n ≡ file_bytes (record_at files.catalog n)
 
--- the numbers of each file are by the words that are found in it
+-- the numbers of each file are those of the words that are found in it
 abbrev pub FilesAreNumbered : Limits → (ℕ → List ℕ) → Words → Axioms → Files → Type 0
 FilesAreNumbered limits at words axioms files =
     (slot : ℕ) (rec : FileRecord) → rec_at files.catalog slot ≡ Some rec
@@ -224,7 +225,7 @@ FilesAreDescribed limits at words axioms files =
     (f : Filed) → Contains files.catalog.entries f → words_told words.dict (set_of files.ext f.slot)
     ≡ file_words (declared_words words) (axioms_of (kept_words limits words axioms.slots.items)) (file_told limits words.dict at f)
 
--- Their index blocks are in form. The blocks that are taken are those of files, and none of them is used twice, by one file or by two.
+-- Their index blocks are well formed. The blocks that are taken are those of files, and none of them is used twice, by one file or by two.
 pub record FilesHaveBlocks (limits : Limits) (at : ℕ → List ℕ) (files : Files) : Type 0 where
   pub indexed : (slot : ℕ) (rec : FileRecord) → rec_at files.catalog slot ≡ Some rec → HasIndex limits at rec
   pub distinct : (slot : ℕ) (rec : FileRecord) → rec_at files.catalog slot ≡ Some rec → IsTrue (are_distinct (blocks_told limits at rec))

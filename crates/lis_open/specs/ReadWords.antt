@@ -61,7 +61,7 @@ pub record AreWords (words : Words) : Type 0 where
   -- what is declared has a word
   pub flagged : (n : ℕ) → is_taken words.declared n ≡ true → IsSome (word_of words.dict n)
 
--- those of the slots below the end
+-- the words of the slots below the end
 pub record AreFirstWords (limits : Limits) (words : Words) (end : ℕ) : Type 0 where
   pub are : AreWords words
   pub props : words.dict.props ≡ limits.props
@@ -77,7 +77,7 @@ WordsAreSpelled limits at words end =
 abbrev pub declared_words : Words → List (List ℕ)
 declared_words words = filter (λ word. bit_of words.declared (number_of words.dict word)) (words_of words.dict)
 
--- what memory keeps of words and axioms, with no file
+-- the metadata of words and axioms, without files
 abbrev pub kept_words : Limits → Words → List AxiomSlot → Metadata
 kept_words limits words axioms =
     metadata_of limits words.dict words.declared axioms (record { files = limits.files; entries = [] }) (replicate limits.blocks false)
@@ -105,7 +105,7 @@ pub record AreNoAxioms (limits : Limits) (axioms : Axioms) : Type 0 where
   pub slots : axioms.slots.items ≡ replicate (axiom_slots limits).count FreeAxiom
   pub taxonomy : axioms.taxonomy ≡ empty_taxonomy limits.props
 
--- an axiom may lead to the word, where these are declared
+-- an axiom may have the word as its right side, if these are declared
 abbrev pub is_right_by : List (List ℕ) → Option (List ℕ) → Bool
 is_right_by declared None = false
 is_right_by declared (Some word) = is_plain_word word && has_word declared word
@@ -113,7 +113,7 @@ is_right_by declared (Some word) = is_plain_word word && has_word declared word
 abbrev pub is_right : Words → Option (List ℕ) → Bool
 is_right words o = is_right_by (declared_words words) o
 
--- it may name the word on its left, and the head of a valued one has a number
+-- an axiom may have the word as its left side, and the head of a valued word has a number
 abbrev pub is_left_by : List (List ℕ) → (List ℕ → Bool) → Option (List ℕ) → Bool
 is_left_by declared is_numbered None = false
 is_left_by declared is_numbered (Some word) = is_nameable declared word && (not (is_valued word) || is_numbered (head_bytes word))
@@ -125,7 +125,7 @@ is_left words o = is_left_by (declared_words words) (λ word. is_some (number_of
 abbrev pub are_sides : Words → ℕ → ℕ → Bool
 are_sides words left right = is_left words (word_of words.dict left) && is_right words (word_of words.dict right)
 
--- the axiom was taken into the slot: it is neither there, nor does it close a circle
+-- the axiom was taken into the slot: it was not there before, and it closes no cycle
 pub record TakesPair (limits : Limits) (words : Words) (k left right : ℕ) (old new : Axioms) : Type 0 where
   pub below : k < limits.props
   pub sides : IsTrue (are_sides words left right)
@@ -154,7 +154,7 @@ pub record IsGoodPair (limits : Limits) (words : Words) (k left right : ℕ) : T
   pub below : k < limits.props
   pub sides : IsTrue (are_sides words left right)
 
--- Those of the slots below the end, no two of them the same, with all edges between words.
+-- The axioms of the slots below the end, no two of them the same, with all edges between words.
 pub record AreFirstAxioms (limits : Limits) (words : Words) (axioms : Axioms) (end : ℕ) : Type 0 where
   pub count : length axioms.slots.items ≡ (axiom_slots limits).count
   pub rest : (n : ℕ) → end ≤ n → axiom_at axioms.slots.items n ≡ FreeAxiom

@@ -16,20 +16,20 @@ use Rattle.lis_kept.specs.Image.{image_layout}
 abbrev pub upgraded : State → State
 upgraded s = record s { limits = record s.limits { version = 2 } }
 
--- The image stood for a state, and every image stands for it in version 2. Or it is refused as opening refuses it.
+-- The image represented a state, and every image represents it in version 2. Or it is refused as opening refuses it.
 abbrev pub UpgradeEnded : {T : Type 0} → Meaning → Meaning → Result T OpenFault → Type 0
 UpgradeEnded old new (Ok done) = IsLongEnough old × ((s : State) × Stands old.bytes s × Always new (λ image. Stands image (upgraded s)))
 UpgradeEnded old new (Err fault) = OpenRefused old new fault
 
--- what becomes of the bytes of an image with these limits: of version 1 its gate is put, and of version 2 all stay
+-- what becomes of the bytes of an image with these limits: in version 1 the gate is put, and in version 2 all bytes stay
 abbrev pub with_gate : Limits → List ℕ → List ℕ
 with_gate limits bytes = if limits.version == 2 then bytes else put bytes 24 (2 ∷ [])
 
--- It reads as what opening leaves with its gate put, and a crash leaves just this.
+-- The disk reads as what opening leaves with the gate put, and a crash leaves just this.
 abbrev pub GateLeft : Meaning → Meaning → Type 0
 GateLeft old new = (limits : Limits) × HasSuper limits old.bytes × IsSettled new (with_gate limits (recovered (image_layout limits) old.bytes))
 
--- what is left; where it is refused, that is what opening leaves
+-- what is left; if the image is refused, this is what opening leaves
 abbrev pub UpgradeLeft : {T : Type 0} → Meaning → Meaning → Result T OpenFault → Type 0
 UpgradeLeft old new (Ok done) = GateLeft old new
 UpgradeLeft old new (Err fault) = FaultLeft old new fault

@@ -31,13 +31,13 @@ use std::alloc::{AllocError, Global};
 /// The axioms of an image, and all links between its words.
 #[derive(Drop)]
 pub struct Axioms {
-    /// By slot, as many as whole blocks have.
+    /// By slot: as many as there are in whole blocks.
     pub slots: Vec<AxiomSlot>,
     pub taxonomy: Taxonomy,
 }
 
 impl Axioms {
-    /// Gives back their memory. A caller that lets them go by this call is not checked with the end of all that they own.
+    /// Frees their memory. A caller that drops them by this call is not checked with the drop of all that they own.
     pub fn close(self) {}
 }
 
@@ -61,7 +61,7 @@ pub fn no_axioms(alloc: Global, limits: &Limits) -> Result<Axioms, AllocError>
     })
 }
 
-/// The number of the head of a number's word, where it is valued.
+/// The number of the head of a number's word, if the word is valued.
 pub fn head_number(words: &Words, number: u16) -> Option<u16>
     ensures { result ≡ head_by words.now.dict (word_of words.now.dict number) }
 {
@@ -88,7 +88,7 @@ fn link_head(taxonomy: &mut Taxonomy, number: u16, head: Option<u16>)
     };
 }
 
-// Links each valued word to its head, where this has a number.
+// Links each valued word to its head, if the head has a number.
 fn link_heads(limits: &Limits, words: &Words, taxonomy: &mut Taxonomy)
     requires range { IsTrue (are_in_range limits.now) }
     requires words { AreFirstWords limits.now words.now limits.now.props }
@@ -113,7 +113,7 @@ fn link_tests(limits: &Limits, words: &Words, taxonomy: &mut Taxonomy)
     }
 }
 
-// Reads an axiom slot. None comes where it is in no layout.
+// Reads an axiom slot. The result is `None` if the slot is in no layout.
 fn read_axiom_slot<D: Disk>(
     last: &mut LastBlock,
     disk: &mut D,
@@ -142,7 +142,8 @@ fn are_sides(words: &Words, left: u32, right: u32) -> bool
     is_left(words, left) && is_right(words, right)
 }
 
-// Takes the axiom of a slot where it may have its words, is in no slot before and closes no circle. Answers whether it is so.
+// Takes the axiom of a slot, and returns whether it does. It does if the slot may have an axiom, the axiom may have its words, no earlier
+// slot has it, and it closes no cycle.
 fn take_pair(
     limits: &Limits,
     words: &Words,
@@ -171,7 +172,7 @@ fn take_pair(
     true
 }
 
-// Takes what was read of a slot, and answers whether it may be taken.
+// Takes what was read of a slot if it may, and returns whether it does.
 fn take_axiom(
     limits: &Limits,
     words: &Words,

@@ -14,7 +14,7 @@ use lis_ports::{Disk, Failed};
 /// The block of a journal that was read last.
 #[derive(Drop)]
 pub struct LastBlock {
-    // None where no block was read.
+    // `None` if no block was read.
     number: Option<u32>,
     bytes: [u8; BLOCK_LEN],
 }
@@ -50,7 +50,7 @@ impl LastBlock {
         Ok(())
     }
 
-    /// Reads slot k of slots as wide as the buffer, which begin at a block.
+    /// Reads slot k. The slots begin at a block, and are as wide as the buffer.
     pub fn read_slot<D: Disk>(
         &mut self,
         disk: &mut D,

@@ -1,4 +1,4 @@
-//! What else must hold of an image: that each word is in use, what the bitmap tells, and what the rows tell.
+//! What else must hold of an image: each word is in use, and the bitmap and the rows are right.
 
 ghost use Rattle.std.specs.Prelude.{◌≡◌, ◌↔◌, ◌/◌, ◌<◌, ◌≤◌, ◌||◌, ◌&&◌, not, is_some, ℕ, Bool, List, length, false, Some, slice_get, IsTrue, IfOk};
 ghost use Rattle.std.specs.List.{list_any};
@@ -36,10 +36,10 @@ use lis_model::limits::Limits;
 use lis_model::spot::Spot;
 use lis_ports::{Disk, Failed};
 
-/// How many bytes the row of as many files as may be has.
+/// How many bytes a row has if the image has the most files.
 const MAX_ROW: usize = MAX_FILES as usize / 8;
 
-// Marks the left side of an axiom, and its head where it is valued.
+// Marks the left side of an axiom, and its head if it is valued.
 fn mark_left(words: &Words, row: &mut Rows, slot: AxiomSlot)
     requires words { AreWords words.now }
     requires left { (left right : ℕ) → slot ≡ Pair left right → left < words.now.dict.props }
@@ -73,7 +73,7 @@ fn mark_lefts(words: &Words, axioms: &Axioms, row: &mut Rows)
     }
 }
 
-// Whether a number is that of a word that is not declared, is in no description, and is marked as a left side in no way.
+// Whether the number has a word that is not declared, is in no description, and is not marked as a left side or the head of one.
 fn is_stray(words: &Words, ext: &Ext, lefts: &Rows, number: u16) -> bool
     requires words { AreWords words.now }
     requires props { ext.now.props ≡ words.now.dict.props }
@@ -119,7 +119,7 @@ pub fn check_words(
     Ok(())
 }
 
-/// Checks that the bitmap tells which data blocks files use.
+/// Checks that the bitmap shows which data blocks files use.
 pub fn check_bitmap<D: Disk>(
     disk: &mut D,
     journal: &Journal,
@@ -139,7 +139,7 @@ pub fn check_bitmap<D: Disk>(
     }
 }
 
-// How many rows the part has room for.
+// How many rows there is room for in the part.
 fn row_count(limits: &Limits) -> u32
     requires { IsTrue (are_in_range limits.now) }
     ensures { result ≡ (row_slots limits.now).count }
@@ -148,7 +148,7 @@ fn row_count(limits: &Limits) -> u32
     per_block * (bitmap_start(limits) - rows_start(limits))
 }
 
-// Whether the bytes are those of a number's row, which is zeros past the last number.
+// Whether the bytes are those of a number's row. Past the last number a row is zeros.
 fn is_row(ext: &Ext, limits: &Limits, number: u32, bytes: &[u8]) -> bool
     requires range { IsTrue (are_in_range limits.now) }
     requires props { ext.now.props ≡ limits.now.props }
@@ -166,7 +166,7 @@ fn is_row(ext: &Ext, limits: &Limits, number: u32, bytes: &[u8]) -> bool
     *row == *bytes
 }
 
-// Whether row slot p is spelled as memory has it.
+// Whether row slot p is spelled as memory requires.
 fn read_row<D: Disk>(
     last: &mut LastBlock,
     disk: &mut D,
@@ -191,7 +191,7 @@ fn read_row<D: Disk>(
     Ok(is_row(ext, limits, p, row))
 }
 
-/// Checks that each row tells which file's description has its word, and that nothing stands behind the last one.
+/// Checks that each row shows which file's description has its word, and that the rest of the part after the last row is zero.
 pub fn check_rows<D: Disk>(
     last: &mut LastBlock,
     disk: &mut D,

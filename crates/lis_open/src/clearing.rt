@@ -1,4 +1,4 @@
-//! What making an image writes: its first byte in a write of its own, and the blocks that are not left as they are.
+//! What making an image writes: its first byte in a separate write, and the blocks that it does not leave as they are.
 
 ghost use Rattle.std.specs.Prelude.{[], ◌∷◌, ◌≡◌, ◌-◌, ◌*◌, ◌≤◌, IsTrue, IfOk, OnOk};
 ghost use Rattle.lis_ports.specs.Bytes.{put, Torn};
@@ -34,7 +34,7 @@ fn read_first<D: Disk>(disk: &mut D) -> Result<u8, Failed>
     Ok(first[0])
 }
 
-/// Writes the first byte, in a write of its own, and syncs.
+/// Writes the first byte, in a separate write, and syncs.
 pub fn write_first<D: Disk>(disk: &mut D, value: u8) -> Result<(), Failed>
     requires { 1 ≤ (D.meaning disk.old).len }
     ensures disk { UsesDisk (D.meaning disk.old) (D.meaning disk.new) result }
@@ -46,7 +46,7 @@ pub fn write_first<D: Disk>(disk: &mut D, value: u8) -> Result<(), Failed>
     disk.sync()
 }
 
-/// Syncs. Where the image begins as one that stands for a state, it then gets another first byte, and this is synced.
+/// Syncs. If the image begins with the first byte of an image, it then gets another first byte, and this is synced.
 pub fn take_name<D: Disk>(disk: &mut D) -> Result<(), Failed>
     requires { 1 ≤ (D.meaning disk.old).len }
     ensures disk { UsesDisk (D.meaning disk.old) (D.meaning disk.new) result }
@@ -54,7 +54,7 @@ pub fn take_name<D: Disk>(disk: &mut D) -> Result<(), Failed>
     ensures torn { OnOk result (IsTrue (D.meaning disk.old).is_honest
         → Always (D.meaning disk.new) (Torn 0 1 (D.meaning disk.old).bytes)) }
 
-    // With nothing unsynced at entry, each image is the one of entry or begins with another byte.
+    // If nothing is unsynced at the start, each image is the initial one or begins with another byte.
     ensures any_moment { IsTrue (D.meaning disk.old).is_honest → IsSettled (D.meaning disk.old) (D.meaning disk.old).bytes
         → Leaves (D.meaning disk.old) (D.meaning disk.new) (IsSpared (D.meaning disk.old).bytes) }
     ensures nameless { OnOk result (IsTrue (D.meaning disk.old).is_honest → Always (D.meaning disk.new) IsNameless) }
@@ -83,7 +83,7 @@ fn clear_blocks<D: Disk>(disk: &mut D, first: u32, end: u32) -> Result<(), Faile
     Ok(())
 }
 
-// Writes the super block, but for its first byte.
+// Writes the super block, except its first byte.
 fn write_rest<D: Disk>(disk: &mut D, limits: &Limits) -> Result<(), Failed>
     requires range { IsTrue (are_in_range limits.now) }
     requires long { BLOCK_LEN ≤ (D.meaning disk.old).len }
@@ -98,8 +98,7 @@ fn write_rest<D: Disk>(disk: &mut D, limits: &Limits) -> Result<(), Failed>
     disk.write_at(1, rest)
 }
 
-/// Writes all of an empty image but its first byte, and syncs: the super block, the gates, and the home blocks that are no
-/// data blocks.
+/// Writes all of an empty image except its first byte, and syncs: the super block, the gates, and the home blocks before the data blocks.
 pub fn wipe<D: Disk>(disk: &mut D, limits: &Limits) -> Result<(), Failed>
     requires range { IsTrue (are_in_range limits.now) }
     requires long { BLOCK_LEN * image_blocks limits.now ≤ (D.meaning disk.old).len }

@@ -1,4 +1,4 @@
-//! What is read of a file's content: as much of it as gives the words that are derived from all.
+//! What is read of a file's content: enough of it to derive the same words as from all of it.
 
 ghost use Rattle.std.specs.Prelude.{◌≡◌, ◌^◌, ◌<◌, ◌≤◌, nat_lt, ℕ, List, [], length, IsTrue, OnOk};
 ghost use Rattle.std.specs.List.{list_all};
@@ -22,7 +22,7 @@ use lis_model::limits::Limits;
 use lis_ports::{Disk, Failed};
 use lis_words::Name;
 
-// Reads the blocks of a content in order, up to the first that gives all words with those before it. The other bytes may be any.
+// Reads the blocks of a content in order, until those that were read give all words. The other bytes may have any value.
 fn read_front<D: Disk>(
     disk: &mut D,
     journal: &Journal,
@@ -54,8 +54,8 @@ fn read_front<D: Disk>(
     Ok(())
 }
 
-/// Reads as much of a file as gives all words of its bytes, and has as many bytes. The blocks are all that the file has, those of its
-/// content first.
+/// Reads enough of a file to derive all words of its bytes; the buffer has as many bytes as the file. The blocks are all that the file has,
+/// those of its content first.
 pub fn read_content<D: Disk>(
     disk: &mut D,
     journal: &Journal,

@@ -59,7 +59,7 @@ pub struct Files {
 }
 
 impl Files {
-    /// Gives back their memory. A caller that lets them go by this call is not checked with the end of all that they own.
+    /// Frees their memory. A caller that drops them by this call is not checked with the drop of all that they own.
     pub fn close(self) {}
 }
 
@@ -76,7 +76,7 @@ pub fn no_files(alloc: Global, limits: &Limits) -> Result<Files, AllocError>
     })
 }
 
-// Reads a file slot. None comes where it is in no layout.
+// Reads a file slot. The result is `None` if the slot is in no layout.
 fn read_slot<D: Disk>(
     last: &mut LastBlock,
     disk: &mut D,
@@ -107,7 +107,7 @@ fn mark_all(map: &mut BlockMap, blocks: &[u16])
     }
 }
 
-// Whether a word of that number is a declared test that so many bytes meet. Few words are tests, so that is asked first.
+// Whether a word of that number is a declared test that this many bytes meet. Few words are tests, so that is checked first.
 fn is_met_word(words: &Words, word: &Word, number: u16, size: u64) -> bool
     requires are { AreWords words.now }
     requires number { number_of words.now.dict word.now ≡ Some number }
@@ -200,7 +200,7 @@ fn describe(
     list_numbers(search)
 }
 
-// Whether no file before has the name, and the words may be given.
+// Whether no earlier file has the name, and the words may be assigned.
 fn may_file(words: &Words, files: &Files, rec: &FileRec) -> bool
     requires { AreWords words.now }
     ensures { result ≡ may_file words.now files.now rec.now }
@@ -228,7 +228,7 @@ fn file(files: &mut Files, slot: u16, rec: FileRec, blocks: &[u16], numbers: &[u
     files.ext.settle();
 }
 
-/// What the reader of files only looks at.
+/// What the reader of files only reads.
 #[derive(Clone, Copy)]
 pub struct Known<'a> {
     pub journal: &'a Journal,
@@ -237,8 +237,8 @@ pub struct Known<'a> {
     pub axioms: &'a Axioms,
 }
 
-// Takes the file of a record where it may be taken, and answers whether it is so. Its content is read where nothing else speaks
-// against it, as far as words are derived from it.
+// Takes the file of a record if it may, and returns whether it does. If nothing else is wrong with the file, it reads enough of the content
+// to derive the words.
 fn take_record<D: Disk>(
     disk: &mut D,
     known: Known,
@@ -285,7 +285,7 @@ fn take_record<D: Disk>(
     }
 }
 
-// Takes the file of a slot where the slot is in its layout and the file may be taken, and answers whether it is so.
+// Takes the file of a slot, and returns whether it does. It does if the slot is in its layout and the file may be taken.
 fn take_file<D: Disk>(
     disk: &mut D,
     known: Known,

@@ -1,4 +1,4 @@
-//! The blocks of files: those that a slot numbers, and those that an index block does.
+//! The blocks of files: those that a slot lists, and those that an index block lists.
 
 ghost use Rattle.std.specs.Prelude.{◌≡◌, ◌+◌, ◌<◌, ◌≤◌, ℕ, List, [], ◌++◌, nat_lt, not, ◌&&◌, length, IsTrue, IfOk, IfSome};
 ghost use Rattle.std.specs.Option.{option_map};
@@ -28,14 +28,14 @@ use lis_ports::{Disk, Failed};
 /// The most blocks that a file has, its index block among them.
 pub const MOST_BLOCKS: usize = MAX_FILE_BLOCKS + 1;
 
-// Whether there is such a data block, and it is free.
+// Whether there is this data block, and it is free.
 fn is_free(map: &BlockMap, block: u16) -> bool
     ensures { result ≡ (nat_lt block (length map.now) && not (is_taken map.now block)) }
 {
     usize::from(block) < map.len() && !map.is_taken(block)
 }
 
-// Whether there are such data blocks, and they are free.
+// Whether there are these data blocks, and they are free.
 fn are_free(map: &BlockMap, blocks: &[u16]) -> bool
     ensures { result ≡ are_free map.now blocks.now }
 {
@@ -49,7 +49,7 @@ fn is_among(number: u16, others: &[u16]) -> bool
     others.iter().any(|other| *other == number)
 }
 
-// Whether no number stands twice.
+// Whether no number occurs twice.
 fn are_distinct(numbers: &[u16]) -> bool
     ensures { result ≡ are_distinct numbers.now }
 {
@@ -62,7 +62,7 @@ fn are_distinct(numbers: &[u16]) -> bool
     true
 }
 
-// The numbers that an index block has, for a content of so many bytes. None comes where the block is out of form.
+// The numbers in an index block, for a content of this many bytes. The result is `None` if the block is malformed.
 fn read_numbers<D: Disk>(
     disk: &mut D,
     journal: &Journal,
@@ -84,7 +84,7 @@ fn read_numbers<D: Disk>(
     Ok(index_numbers(&block, size))
 }
 
-// The blocks of a content, and then those that the slot numbers.
+// The blocks of a content, and then those that the slot lists.
 fn joined(content: &[u16], slot: &[u16]) -> ArrayVec<u16, MOST_BLOCKS>
     requires { length content.now + length slot.now ≤ MAX_PLACED }
     ensures { result.items ≡ content.now ++ slot.now }
@@ -95,7 +95,7 @@ fn joined(content: &[u16], slot: &[u16]) -> ArrayVec<u16, MOST_BLOCKS>
     blocks
 }
 
-// All blocks of a file, those of its content first, by its index block where it has one. None comes where that block is out of form.
+// All blocks of a file, those of its content first, by its index block if it has one. The result is `None` if the index block is malformed.
 fn all_blocks<D: Disk>(
     disk: &mut D,
     journal: &Journal,
@@ -122,8 +122,8 @@ fn all_blocks<D: Disk>(
     Ok(Some(joined(numbers.as_slice(), slot)))
 }
 
-/// All blocks of a file, those of its content first. None comes where its index block is out of form, where there is no block of one of the numbers, where a file before
-/// uses one, or where one stands twice.
+/// All blocks of a file, those of its content first. The result is `None` if its index block is malformed, if there is no block of one of
+/// the numbers, if an earlier file uses one, or if one occurs twice.
 pub fn free_blocks<D: Disk>(
     disk: &mut D,
     journal: &Journal,

@@ -60,12 +60,12 @@ fn write_image<D: Disk>(disk: &mut D, limits: &Limits) -> Result<(), Failed>
     write_first(disk, FIRST_BYTE)
 }
 
-/// Makes an image of the empty state. It takes no memory.
+/// Makes an image of the empty state. It allocates no memory.
 pub fn make<D: Disk>(disk: &mut D, limits: &Limits) -> Result<(), MakeFault>
     requires range { IsTrue (are_in_range limits.now) }
     ensures run { IsDiskRun (D.meaning disk.old) (D.meaning disk.new) }
 
-    // A disk is too short where it has fewer bytes than the image. It is left as it was.
+    // A disk is too short if it has fewer bytes than the image. Then it is left as it was.
     ensures short { IsShortWhere (D.meaning disk.old).len (BLOCK_LEN * image_blocks limits.now) result }
     ensures untouched { (len need : ℕ) → result ≡ Err (TooShort len need) → disk.new ≡ disk.old }
     ensures cause { HasMakeCause (D.meaning disk.old).disk_faults (D.meaning disk.new).disk_faults result }
@@ -73,17 +73,17 @@ pub fn make<D: Disk>(disk: &mut D, limits: &Limits) -> Result<(), MakeFault>
     ensures made { OnOk result (IsTrue (D.meaning disk.old).is_honest
         → Always (D.meaning disk.new) (λ image. Stands image (empty_state limits.now))) }
 
-    // With nothing unsynced at entry, a crash leaves the image of entry, one of the empty state, or one of no state. In each the
-    // records, the data blocks and what lies past the image are as they were.
+    // If nothing is unsynced at the start, a crash leaves the initial image, one of the empty state, or one of no state. In each of them
+    // the records, the data blocks and what is past the image are as they were.
     ensures any_moment { IsTrue (D.meaning disk.old).is_honest → IsSettled (D.meaning disk.old) (D.meaning disk.old).bytes
         → Leaves (D.meaning disk.old) (D.meaning disk.new) (InMaking limits.now (D.meaning disk.old).bytes) }
 
-    // It writes the super block, and zeros to the gate block and the home blocks before the data blocks; every other block is as it
-    // was. Where the disk failed, each of these reads as before that a crash at entry left as it read.
+    // It writes the super block, and zeros to the gate block and the home blocks before the data blocks. Every other block is as it was. If
+    // the disk failed, this holds of each block that a crash at the start left as it read.
     ensures left { OnOk result (IsTrue (D.meaning disk.old).is_honest
         → Always (D.meaning disk.new) (IsMade limits.now (D.meaning disk.old).bytes)) }
 
-    // Nothing of it is unsynced then: a crash leaves the bytes as they read.
+    // After that nothing is unsynced: a crash leaves the bytes as they read.
     ensures settled { OnOk result (IsTrue (D.meaning disk.old).is_honest → IsSettled (D.meaning disk.new) (D.meaning disk.new).bytes) }
     ensures spare { (n : ℕ) → IsTrue (D.meaning disk.old).is_honest → IsSpare limits.now n
         → (result ≡ Err DiskFailed → IsSettledAt (D.meaning disk.old) n)

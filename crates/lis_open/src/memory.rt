@@ -1,4 +1,4 @@
-//! The memory that opening takes, all of it before the journal is looked at.
+//! The memory that opening allocates, all of it before it reads the journal.
 
 ghost use Rattle.std.specs.Prelude.{◌≡◌, IsTrue, IfOk};
 ghost use Rattle.lis_model.specs.Ranges.{are_in_range};
@@ -16,7 +16,7 @@ use lis_model::limits::Limits;
 use lis_taxonomy::Search;
 use std::alloc::{AllocError, Global};
 
-/// What opening reads into.
+/// The memory into which opening reads.
 #[derive(Drop)]
 pub struct OpeningMemory {
     pub words: Words,
@@ -27,12 +27,12 @@ pub struct OpeningMemory {
     pub search: Search,
     /// The bytes of the file that is read.
     pub bytes: Buffer,
-    /// By block: it is to be written.
+    /// By block: it must be written.
     pub marks: Flags,
 }
 
 impl OpeningMemory {
-    /// Gives back its memory, what has most parts by calls of their own: a drop of all at once takes long to check.
+    /// Frees its memory. The fields with most parts are dropped by separate calls, since one drop of all takes long to check.
     pub fn close(self) {
         self.files.close();
         self.axioms.close();
@@ -40,7 +40,7 @@ impl OpeningMemory {
     }
 }
 
-// What the slots are read into.
+// The memory into which the slots are read.
 #[derive(Drop)]
 struct SlotMemory {
     words: Words,
@@ -48,7 +48,7 @@ struct SlotMemory {
     files: Files,
 }
 
-// Takes the memory for the slots. Nothing is read yet.
+// Allocates the memory for the slots. Nothing is read yet.
 fn take_slot_memory(alloc: Global, limits: &Limits) -> Result<SlotMemory, AllocError>
     requires { IsTrue (are_in_range limits.now) }
     ensures words { IfOk result (λ slots. slots.words ≡ no_words limits.now) }
@@ -62,8 +62,8 @@ fn take_slot_memory(alloc: Global, limits: &Limits) -> Result<SlotMemory, AllocE
     })
 }
 
-/// Takes the memory, what has most parts last: each part is given back wherever a later one can't be had, which takes long to check.
-/// Nothing is read yet.
+/// Allocates the memory. The fields with most parts come last: each field is freed wherever a later allocation fails, which takes long to
+/// check. Nothing is read yet.
 pub fn take_memory(alloc: Global, limits: &Limits) -> Result<OpeningMemory, AllocError>
     requires { IsTrue (are_in_range limits.now) }
     ensures { IfOk result (IsEmptyMemory limits.now) }

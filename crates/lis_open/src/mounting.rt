@@ -37,7 +37,7 @@ pub enum OpenFault {
     /// How many bytes the disk has, and how many are needed.
     #[error("the disk has {0} bytes, and {1} are needed")]
     TooShort(u64, u64),
-    /// The image stands for no state. The spot is that of the first check that fails.
+    /// The image represents no state. The spot is that of the first check that fails.
     #[error("the image stands for no state")]
     Damaged(Spot),
     #[error("the disk failed")]
@@ -83,7 +83,7 @@ impl From<JournalFault> for OpenFault {
     }
 }
 
-// Reads the limits of the super block. The disk is as long as they ask for.
+// Reads the limits of the super block. If it returns them, the disk is as long as they require.
 fn read_limits<D: Disk>(disk: &mut D) -> Result<Limits, OpenFault>
     ensures reads { OnlyReads (D.meaning disk.old) (D.meaning disk.new) }
     ensures cause { HasOpenCause (D.meaning disk.old).disk_faults (D.meaning disk.new).disk_faults result }
@@ -111,7 +111,7 @@ fn read_limits<D: Disk>(disk: &mut D) -> Result<Limits, OpenFault>
     Ok(limits)
 }
 
-// Opens the image behind a super block of these limits.
+// Opens the image that follows a super block of these limits.
 fn mount_image<D: Disk>(alloc: Global, disk: &mut D, limits: Limits) -> Result<Store, OpenFault>
     requires range { IsTrue (are_in_range limits) }
     requires long { BLOCK_LEN * image_blocks limits ≤ (D.meaning disk.old).len }
@@ -134,7 +134,7 @@ fn mount_image<D: Disk>(alloc: Global, disk: &mut D, limits: Limits) -> Result<S
     let layout = image_layout(&limits);
     match Journal::mount(alloc, disk, layout, image_capacity(&limits)) {
         Ok(journal) => read_store(disk, limits, journal, memory),
-        // Closed by a call, since an end is checked with all that is let go there.
+        // Dropped by a call, since a function's end is checked with all that is dropped there.
         Err(fault) => {
             memory.close();
             Err(OpenFault::from(fault))
@@ -142,7 +142,7 @@ fn mount_image<D: Disk>(alloc: Global, disk: &mut D, limits: Limits) -> Result<S
     }
 }
 
-/// Opens the image on a disk. It writes nothing but what unfinished records ask for.
+/// Opens the image on a disk. It writes only what unfinished records require.
 pub fn mount<D: Disk>(alloc: Global, disk: &mut D) -> Result<Store, OpenFault>
     ensures run { IsDiskRun (D.meaning disk.old) (D.meaning disk.new) }
     ensures cause { HasOpenCause (D.meaning disk.old).disk_faults (D.meaning disk.new).disk_faults result }
@@ -152,8 +152,8 @@ pub fn mount<D: Disk>(alloc: Global, disk: &mut D) -> Result<Store, OpenFault>
     // The spot is that of the first check that fails.
     ensures spot { (spot : SpotOf) → result ≡ Err (Damaged spot) → IsTrue (D.meaning disk.old).is_honest → FailsFirst (D.meaning disk.old).bytes spot }
 
-    // Of any disk: at `TooShort` the first number is its length, and the second is greater. What is shorter than a super block is not
-    // read.
+    // Of any disk: at `TooShort` the first number is the disk's length, and the second is greater. A disk that is shorter than a super
+    // block is not read.
     ensures numbers { (len need : ℕ) → result ≡ Err (TooShort len need) → (len ≡ (D.meaning disk.old).len) × (len < need) }
     ensures small { (D.meaning disk.old).len < BLOCK_LEN
         → (result ≡ Err (TooShort (D.meaning disk.old).len BLOCK_LEN)) × (disk.new ≡ disk.old) }
@@ -161,19 +161,19 @@ pub fn mount<D: Disk>(alloc: Global, disk: &mut D) -> Result<Store, OpenFault>
     ensures ready { IfOk result (λ store. store.is_broken ≡ false) }
     ensures long { IfOk result (λ store. BLOCK_LEN * store.journal.layout.blocks ≤ (D.meaning disk.new).len) }
 
-    // Nothing is written but what an open gate asks for, whatever the image; and where the image stood for a state, each moment
-    // stands for the same one, or is an image that a crash could have left before.
+    // Whatever the image, only what an open gate requires is written. If the image represented a state, each moment represents the same
+    // one, or is an image that a crash could have left before.
     ensures left { IsTrue (D.meaning disk.old).is_honest → OpenLeft (D.meaning disk.old) (D.meaning disk.new) result }
     ensures any_moment { IsTrue (D.meaning disk.old).is_honest
         → Leaves (D.meaning disk.old) (D.meaning disk.new) (InOpening (D.meaning disk.old)) }
     ensures same_state { (s : State) → IsTrue (D.meaning disk.old).is_honest → Stands (D.meaning disk.old).bytes s
         → Leaves (D.meaning disk.old) (D.meaning disk.new) (λ image. (D.meaning disk.old).images image ⊎ Stands image s) }
 
-    // Where no gate is open nothing is written, whatever the image.
+    // If no gate is open nothing is written, whatever the image.
     ensures unwritten { IsTrue (D.meaning disk.old).is_honest → has_open (D.meaning disk.old).bytes ≡ false
         → OpenUnwritten (D.meaning disk.old) (D.meaning disk.new) result }
 
-    // What lies past the image stays; where the disk failed, if a crash at entry left it as it read.
+    // What is past the image stays. If the disk failed, this holds if a crash at the start left it as it read.
     ensures past { (limits : LimitsOf) → IsTrue (D.meaning disk.old).is_honest → HasSuper limits (D.meaning disk.old).bytes
         → (result ≡ Err DiskFailed → IsSettledPast (image_blocks limits) (D.meaning disk.old))
         → KeepsPast (image_blocks limits) (D.meaning disk.old) (D.meaning disk.new) }

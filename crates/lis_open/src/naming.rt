@@ -43,7 +43,7 @@ fn is_plain_or_test(word: &Word) -> bool
     test_of(word).is_some()
 }
 
-// Whether the word is a declared one that is plain or a test.
+// Whether the word is declared, and is plain or a test.
 fn is_named(words: &Words, word: &Word) -> bool
     requires { AreWords words.now }
     ensures { result ≡ ((is_plain_word word.now || is_test word.now) && has_word (declared_words words.now) word.now) }
@@ -81,7 +81,7 @@ fn has_declared_head(words: &Words, word: &Word) -> bool
     }
 }
 
-// Whether files may be given the word.
+// Whether the word may be assigned to files.
 fn is_assignable(words: &Words, word: &Word) -> bool
     requires { AreWords words.now }
     ensures { result ≡ is_assignable (declared_words words.now) word.now }
@@ -100,7 +100,7 @@ fn word_at(words: &Words, number: u32) -> Option<Word>
     }
 }
 
-/// Whether an axiom may have the word of a number on its right.
+/// Whether an axiom may have the word of a number as its right side.
 pub fn is_right(words: &Words, number: u32) -> bool
     requires { AreWords words.now }
     ensures { result ≡ is_right words.now (word_of words.now.dict number) }
@@ -122,7 +122,7 @@ fn has_its_head(words: &Words, word: &Word) -> bool
     }
 }
 
-/// The number of a word. None comes where it has none, or where it is valued and its head has none.
+/// The number of a word. The result is `None` if it has none, or if it is valued and its head has none.
 pub fn numbered(words: &Words, word: &Word) -> Option<u16>
     requires { AreWords words.now }
     ensures { MatchOption result (is_numbered words.now.dict word.now ≡ false)
@@ -140,7 +140,7 @@ pub fn numbered(words: &Words, word: &Word) -> Option<u16>
     }
 }
 
-/// Whether an axiom may have the word of a number on its left.
+/// Whether an axiom may have the word of a number as its left side.
 pub fn is_left(words: &Words, number: u32) -> bool
     requires { AreWords words.now }
     ensures { result ≡ is_left words.now (word_of words.now.dict number) }
@@ -151,7 +151,7 @@ pub fn is_left(words: &Words, number: u32) -> bool
     }
 }
 
-// Whether the number is that of a word that files may be given.
+// Whether the number has a word that may be assigned to files.
 fn is_assignable_number(words: &Words, number: u16) -> bool
     requires { AreWords words.now }
     ensures { result ≡ is_assignable_number words.now number }
@@ -162,7 +162,7 @@ fn is_assignable_number(words: &Words, number: u16) -> bool
     }
 }
 
-/// Whether each number is that of a word that files may be given.
+/// Whether each number has a word that may be assigned to files.
 pub fn are_assignable(words: &Words, numbers: &[u16]) -> bool
     requires { AreWords words.now }
     ensures { result ≡ list_all (is_assignable_number words.now) numbers.now }

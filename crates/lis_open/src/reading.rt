@@ -1,4 +1,4 @@
-//! A store out of an image, behind its journal.
+//! A store from an image, after its journal.
 
 ghost use Rattle.std.specs.Prelude.{◌≡◌, ℕ, List, Bool, [], false, IfOk, OnOk};
 ghost use Rattle.lis_bits.specs.Rows.{HasShape};
@@ -21,7 +21,7 @@ use lis_model::limits::Limits;
 use lis_ports::Disk;
 use lis_store::{Built, Store};
 
-// Reads words, axioms and files, each slot checked as it is read.
+// Reads words, axioms and files, and checks each slot as it is read.
 fn read_slots<D: Disk>(
     last: &mut LastBlock,
     disk: &mut D,
@@ -65,7 +65,7 @@ fn read_slots<D: Disk>(
     Ok(())
 }
 
-// Checks what must hold behind the slots: that words are in use, and what the bitmap and the rows tell.
+// Checks what must hold after the slots: words are in use, and the bitmap and the rows are right.
 fn check_parts<D: Disk>(
     last: &mut LastBlock,
     disk: &mut D,
@@ -115,7 +115,7 @@ fn read_parts<D: Disk>(
     check_parts(&mut last, disk, journal, limits, memory)
 }
 
-/// Reads all that a store keeps in memory, and checks that the image stands for a state. It takes no memory.
+/// Reads all that a store keeps in memory, and checks that the image represents a state. It allocates no memory.
 pub fn read_store<D: Disk>(
     disk: &mut D,
     limits: Limits,
@@ -133,7 +133,7 @@ pub fn read_store<D: Disk>(
         → SpellsSuper limits (kept 0) → StoreEnded limits kept result }
 {
     let mut memory = memory;
-    // Closed by a call, since an end is checked with all that is let go there.
+    // Dropped by a call, since a function's end is checked with all that is dropped there.
     if let Err(fault) = read_parts(disk, &journal, &limits, &mut memory) {
         memory.close();
         return Err(fault);

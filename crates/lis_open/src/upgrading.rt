@@ -24,13 +24,13 @@ use lis_limits::BLOCK_LEN;
 use lis_ports::{Disk, Failed};
 use std::alloc::Global;
 
-/// Where a super block has the gate of its version.
+/// The byte of a super block that is the gate of its version.
 const GATE: u64 = 24;
 
 /// The gate of version 2.
 const SECOND: u8 = 2;
 
-// Writes the gate of version 2, in a write of its own, and syncs.
+// Writes the gate of version 2, in a separate write, and syncs.
 fn write_gate<D: Disk>(disk: &mut D) -> Result<(), Failed>
     requires { 25 ≤ (D.meaning disk.old).len }
     ensures disk { UsesDisk (D.meaning disk.old) (D.meaning disk.new) result }
@@ -42,10 +42,10 @@ fn write_gate<D: Disk>(disk: &mut D) -> Result<(), Failed>
     disk.sync()
 }
 
-/// Makes the image on a disk one of version 2. It is opened first, and refused as `mount` refuses it. Then the gate is written, in a write
-/// of its own, and synced. All memory is taken before.
+/// Makes the image on a disk one of version 2. It opens the image first, and refuses it as `mount` does. Then it writes the gate, in a
+/// separate write, and syncs. All memory is allocated before.
 ///
-/// Stopped at any moment, an image stands for its state, or for the same in version 2, or is one that a crash could have left before.
+/// At any moment the image represents its state, or the same state in version 2, or is one that a crash could have left before.
 pub fn upgrade<D: Disk>(alloc: Global, disk: &mut D) -> Result<(), OpenFault>
     ensures run { IsDiskRun (D.meaning disk.old) (D.meaning disk.new) }
     ensures cause { HasOpenCause (D.meaning disk.old).disk_faults (D.meaning disk.new).disk_faults result }
@@ -55,24 +55,23 @@ pub fn upgrade<D: Disk>(alloc: Global, disk: &mut D) -> Result<(), OpenFault>
     ensures moments { (s : State) → IsTrue (D.meaning disk.old).is_honest → Stands (D.meaning disk.old).bytes s
         → Leaves (D.meaning disk.old) (D.meaning disk.new) (λ image. (D.meaning disk.old).images image ⊎ (Stands image s ⊎ Stands image (upgraded s))) }
 
-    // Where it is refused nothing is written but what an open gate asks for, and where the image stands for no state each moment is one of
-    // opening.
+    // If the image is refused, only what an open gate requires is written. If it represents no state, each moment is one of opening.
     ensures left { IsTrue (D.meaning disk.old).is_honest → UpgradeLeft (D.meaning disk.old) (D.meaning disk.new) result }
     ensures refused { IsTrue (D.meaning disk.old).is_honest → ((s : State) → Stands (D.meaning disk.old).bytes s → ⊥)
         → Leaves (D.meaning disk.old) (D.meaning disk.new) (InOpening (D.meaning disk.old)) }
 
-    // Where it is refused for another reason than a fault of the disk, opening alone was done.
+    // If the image is refused for any reason other than a disk fault, only opening was done.
     ensures unbegun { (s : State) (fault : FaultOf) → result ≡ Err fault → fault ≢ DiskFailed → IsTrue (D.meaning disk.old).is_honest
         → Stands (D.meaning disk.old).bytes s → Leaves (D.meaning disk.old) (D.meaning disk.new) (λ image. (D.meaning disk.old).images image ⊎ Stands image s) }
     ensures unwritten { (fault : FaultOf) → result ≡ Err fault → fault ≢ DiskFailed → IsTrue (D.meaning disk.old).is_honest
         → has_open (D.meaning disk.old).bytes ≡ false → OpenUnwritten (D.meaning disk.old) (D.meaning disk.new) (Err fault) }
 
-    // Of any disk: how the answer goes with its length.
+    // Of any disk: how the result depends on its length.
     ensures numbers { (len need : ℕ) → result ≡ Err (TooShort len need) → (len ≡ (D.meaning disk.old).len) × (len < need) }
     ensures small { (D.meaning disk.old).len < BLOCK_LEN
         → (result ≡ Err (TooShort (D.meaning disk.old).len BLOCK_LEN)) × (disk.new ≡ disk.old) }
 
-    // What lies past the image stays; where the disk failed, if a crash at entry left it as it read.
+    // What is past the image stays. If the disk failed, this holds if a crash at the start left it as it read.
     ensures past { (limits : LimitsOf) → IsTrue (D.meaning disk.old).is_honest → HasSuper limits (D.meaning disk.old).bytes
         → (result ≡ Err DiskFailed → IsSettledPast (image_blocks limits) (D.meaning disk.old))
         → KeepsPast (image_blocks limits) (D.meaning disk.old) (D.meaning disk.new) }

@@ -33,7 +33,7 @@ pub struct Words {
 }
 
 impl Words {
-    /// Gives back their memory. A caller that lets them go by this call is not checked with the end of all that they own.
+    /// Frees their memory. A caller that drops them by this call is not checked with the drop of all that they own.
     pub fn close(self) {}
 }
 
@@ -49,7 +49,7 @@ pub fn no_words(alloc: Global, limits: &Limits) -> Result<Words, AllocError>
     })
 }
 
-// Reads a property slot. None comes where it is in no layout.
+// Reads a property slot. The result is `None` if the slot is in no layout.
 fn read_property<D: Disk>(
     last: &mut LastBlock,
     disk: &mut D,
@@ -70,7 +70,7 @@ fn read_property<D: Disk>(
     Ok(read_prop(&bytes))
 }
 
-// Takes a word where it is new, and answers whether it is.
+// Takes a word if it is new, and returns whether it is.
 fn take_word(words: &mut Words, number: u16, word: &Word, is_declared: bool) -> bool
     requires are { AreWords words.old }
     requires below { number < words.old.dict.props }
@@ -87,7 +87,7 @@ fn take_word(words: &mut Words, number: u16, word: &Word, is_declared: bool) -> 
     true
 }
 
-// Takes the word of a slot where the slot is in its layout and no slot before has the word, and answers whether it is so.
+// Takes the word of a slot, and returns whether it does. It does if the slot is in its layout and no earlier slot has the word.
 fn take_property(words: &mut Words, number: u16, found: Option<PropSlot>) -> bool
     requires are { AreWords words.old }
     requires below { number < words.old.dict.props }

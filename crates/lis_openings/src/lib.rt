@@ -1,4 +1,4 @@
-//! Tests of making and opening: what making leaves, and what opening answers to images whole and damaged.
+//! Tests of making and opening: what making leaves, and what opening returns for whole and damaged images.
 #![tactic(auto)]
 
 #[cfg(test)]

@@ -1,4 +1,4 @@
-//! What making an image leaves, and what opening answers to each kind of damage.
+//! What making an image leaves, and what opening returns for each kind of damage.
 
 use lis_memdisk::MemStation;
 use lis_model::limits::Limits;
@@ -35,7 +35,7 @@ const BITMAP: u64 = 585 * 4_096;
 
 const DATA: u64 = 586 * 4_096;
 
-// The same of an image with room for 192 known words.
+// The same for an image with room for 192 known words.
 const WIDE_LEN: usize = 596 * 4_096;
 
 const WIDE_AXIOMS: u64 = 581 * 4_096;
@@ -46,11 +46,11 @@ const WIDE_START: &[u8] = b"LISFS-IM\x01\0\0\0\x40\0\0\0\xc0\0\0\0\x08\0\0\0\0";
 
 const SUPER_START: &[u8] = b"LISFS-IM\x01\0\0\0\x40\0\0\0\x40\0\0\0\x08\0\0\0\0";
 
-/// Bytes, and the place where they are written.
+/// Bytes, and the offset at which they are written.
 type Patch = (u64, &'static [u8]);
 
-// The words `music`, `rock`, `year:` and `year:1999`, the axioms from `rock` and from `year:1999` to `music`, and the file `song` with
-// `rock`, which has 2 bytes in data block 1, and so the word `size:small`.
+// The words `music`, `rock`, `year:` and `year:1999`, axioms from `rock` and from `year:1999` to `music`, and the file `song`. The file has
+// the word `rock`, and 2 bytes in data block 1, and so the word `size:small`.
 const SONG: &[Patch] = &[
     (WORDS, b"\x02\x05music"),
     (WORDS + 64, b"\x02\x05year:"),
@@ -97,7 +97,7 @@ const DAMAGES: &[(&[Patch], Spot)] = &[
     (&[(25, b"\x01")], Spot::Super),
     (&[(4_095, b"\x01")], Spot::Super),
     (&[(GATES, b"\x01")], Spot::BadRecord(2)),
-    // a whole record of one block, and none behind it
+    // a whole record of one block, and none after it
     (
         &[(GATES, b"\x01\x01"), (RECORDS, b"\x01\0\0\0\x42\x02")],
         Spot::BadRecord(4),
@@ -128,7 +128,7 @@ const DAMAGES: &[(&[Patch], Spot)] = &[
         Spot::File(7),
     ),
     (&[(ROWS + 512, b"\x01"), (ROWS, b"\x01")], Spot::Row(0)),
-    // two damages of parts that are looked at one after the other, the earlier one in the last place of its part
+    // two damages of parts that are checked in sequence, the earlier one at the last index of its part
     (&[(GATES, b"\x01"), (8, b"\x09")], Spot::Super),
     (
         &[(WORDS + 5 * 64, b"\x03"), (GATES, b"\x01")],
@@ -160,18 +160,18 @@ const DAMAGES: &[(&[Patch], Spot)] = &[
     ),
 ];
 
-// The same of the image with `song`.
+// The same for the image with `song`.
 const SONG_DAMAGES: &[(&[Patch], Spot)] = &[
     (&[(WORDS + 6 * 64, b"\x02\x04rock")], Spot::Property(6)),
     (&[(WORDS + 3 * 64, b"\x01\x06from:x")], Spot::Word(3)),
-    // the pair twice, two circles, a right side that is not plain, one without a word, and a slot past the last one
+    // the pair twice, two cycles, a right side that is not plain, one without a word, and a slot past the last one
     (&[(AXIOMS + 3 * 8, b"\x06\0\0\0\x01")], Spot::Axiom(3)),
     (&[(AXIOMS, b"\x01\0\0\0\x06")], Spot::Axiom(2)),
     (&[(AXIOMS, b"\x01\0\0\0\x01")], Spot::Axiom(0)),
     (&[(AXIOMS, b"\x01\0\0\0\x02")], Spot::Axiom(0)),
     (&[(AXIOMS, b"\x01\0\0\0\x05")], Spot::Axiom(0)),
     (&[(AXIOMS + 512, b"\x06\0\0\0\x01")], Spot::Axiom(64)),
-    // a left side without a word, and a slot with a left side alone
+    // a left side without a word, and a slot with only a left side
     (&[(AXIOMS, b"\x05\0\0\0\x01")], Spot::Axiom(0)),
     (&[(AXIOMS, b"\x01")], Spot::Axiom(0)),
     // a valued left side without its head, declared or built in, and a word that only its axiom kept
@@ -184,8 +184,8 @@ const SONG_DAMAGES: &[(&[Patch], Spot)] = &[
         Spot::Axiom(0),
     ),
     (&[(AXIOMS + 4 * 8, b"\0\0\0\0\0")], Spot::Word(2)),
-    // a word without a slot, two that no file is given, a block past the last one, a name twice, and a block twice, in two files and
-    // in one of 4,097 bytes
+    // a word without a slot, two words that are not assignable, a block past the last one, a name twice, and a block twice, in two files
+    // and in one of 4,097 bytes
     (&[(FILES + 256 + 68, b"\x06")], Spot::File(1)),
     (&[(FILES + 256 + 68, b"\x01")], Spot::File(1)),
     (&[(FILES + 256 + 68, b"\x09")], Spot::File(1)),
@@ -214,13 +214,13 @@ const SONG_DAMAGES: &[(&[Patch], Spot)] = &[
     (&[(ROWS + 4_095, b"\x01")], Spot::Row(64)),
 ];
 
-// The same of the image with `a.c`: a derived word without a slot, and one whose head has none.
+// The same for the image with `a.c`: a derived word without a slot, and one whose head has none.
 const SOURCE_DAMAGES: &[(&[Patch], Spot)] = &[
     (&[(WORDS + 64, b"\0\0\0\0\0\0\0")], Spot::File(0)),
     (&[(WORDS, b"\0\0\0\0\0\0")], Spot::File(0)),
     (&[(DATA + 4, b"g")], Spot::File(0)),
     (&[(FILES + 2, b"b.h")], Spot::File(0)),
-    // what is no longer derived is in no use
+    // what is no longer derived is not in use
     (&[(DATA, b"//")], Spot::Word(4)),
     (&[(ROWS + 8, b"\0")], Spot::Row(1)),
 ];
@@ -232,13 +232,13 @@ enum Answer {
     Damaged(Spot),
 }
 
-// A disk of so many bytes, all alike.
+// A disk of this many bytes, all the same.
 fn disk_of(alloc: Global, byte: u8, len: usize) -> Result<MemStation, AllocError> {
     let bytes = vec![in alloc; byte; len]?;
     MemStation::new(alloc, &bytes, 0)
 }
 
-// The one function that sees the contract of `make`, as `opening` is for `mount`: so the rest is quickly proved.
+// Only this function sees the contract of `make`, as only `opening` sees that of `mount`. So the rest is proved quickly.
 fn making(disk: &mut MemStation) -> Result<(), MakeFault> {
     make(disk, &LIMITS)
 }
@@ -286,7 +286,7 @@ fn opening(alloc: Global, disk: &mut MemStation) -> Result<Answer, Fail> {
     }
 }
 
-// What opening answers to an empty image with some changes, and then others.
+// What opening returns for an empty image with some changes, and then others.
 fn opening_with(alloc: Global, first: &[Patch], second: &[Patch]) -> Result<Answer, Fail> {
     let mut disk = empty_image(alloc)?;
     put_all(&mut disk, first)?;
@@ -294,7 +294,7 @@ fn opening_with(alloc: Global, first: &[Patch], second: &[Patch]) -> Result<Answ
     opening(alloc, &mut disk)
 }
 
-// Each of the damages, to an empty image with some changes, is answered with its spot.
+// Each of the damages, made to an empty image with some changes, gives its spot.
 fn assert_found(
     rt: &impl Abort,
     alloc: Global,
@@ -324,7 +324,7 @@ fn put_chain(disk: &mut MemStation) -> Result<(), Fail> {
     Ok(())
 }
 
-// What opening answers to an image with these words and an empty file that has the one of this slot.
+// What opening returns for an image with these words and an empty file that has the word of this slot.
 fn opening_chain(alloc: Global, slot: u8) -> Result<Answer, Fail> {
     let mut disk = disk_of(alloc, 0, WIDE_LEN)?;
     put(&mut disk, 0, WIDE_START)?;
@@ -344,8 +344,8 @@ fn making_leaves_an_empty_image(rt: HostRuntime) -> Result<(), Fail> {
         assert!(rt; byte_at(&mut disk, at as u64)? == *byte, "at {at}");
     }
 
-    // The gate block and the home blocks before the data blocks are zeros. The records, the data blocks and what lies past the
-    // image are left alone.
+    // The gate block and the home blocks before the data blocks are zeros. The records, the data blocks and what is past the image are left
+    // alone.
     for (at, byte) in [
         (GATES, 0),
         (RECORDS - 1, 0),
@@ -368,7 +368,7 @@ fn a_short_disk_is_refused(rt: HostRuntime) -> Result<(), Fail> {
     let mut disk = disk_of(rt.alloc(), 0, IMAGE_LEN - 1)?;
     let answer = making(&mut disk);
     assert!(rt; matches!(answer, Err(MakeFault::TooShort(2_433_023, 2_433_024))));
-    // The length is judged behind the super block, and ahead of the gates.
+    // The length is judged after the super block, and before the gates.
     put_all(&mut disk, &[(0, SUPER_START), (GATES, b"\x01")])?;
     assert!(rt; opening(rt.alloc(), &mut disk)? == Answer::TooShort(2_433_023, 2_433_024));
     put(&mut disk, 8, b"\x09")?;
@@ -378,7 +378,7 @@ fn a_short_disk_is_refused(rt: HostRuntime) -> Result<(), Fail> {
     Ok(())
 }
 
-// A gate behind a closed one counts for nothing, and so does a gate that is not 1. The version is 1 where its gate is not 2.
+// A gate after a closed one does not count, and neither does a gate that is not 1. The version is 1 if its gate is not 2.
 #[test]
 fn whole_images_are_opened(rt: HostRuntime) -> Result<(), Fail> {
     for changes in [
@@ -408,7 +408,7 @@ fn damage_to_what_files_tell_is_found(rt: HostRuntime) -> Result<(), Fail> {
     assert_found(&rt, rt.alloc(), SOURCE, SOURCE_DAMAGES)
 }
 
-// With its two words by size the file has 128 words, 129 and 132. Its rows are empty, which is judged later.
+// With its two words by size the file has 128 words, 129 and 132. Its rows are empty, which is checked later.
 #[test]
 fn a_file_has_at_most_128_words(rt: HostRuntime) -> Result<(), Fail> {
     for (slot, spot) in [

@@ -1,4 +1,4 @@
--- Views of a file of a state, worked by the definitions alone.
+-- Views of a file of a state, worked out by the definitions alone.
 use Rattle.std.proofs.Common.{◌≡◌, ℕ, List, [], ◌∷◌, codes, refl}
 use Rattle.std.specs.Fmt.{digits}
 use Rattle.lis_grammar.specs.Machine.{text_steps}
@@ -34,7 +34,7 @@ no_formula : view now (codes "notes.txt") [] ≡ shows (codes "no 05 formula\n")
 unfolding digits text_steps is_place printed
 no_formula = refl
 
--- it leads nowhere here
+-- `..` is no formula here
 no_step_up : view now (codes "notes.txt") (codes "..") ≡ shows (codes "no 05 formula\n")
 unfolding digits text_steps is_place printed
 no_step_up = refl

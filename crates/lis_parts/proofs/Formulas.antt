@@ -1,4 +1,4 @@
--- The formula that a text reads to.
+-- The formula as which a text reads.
 use Rattle.std.proofs.Common.{◌≡◌, ℕ, ◌≤◌, nat_lt, Bool, true, false, Some, List, [], length, refl, ap, ◌∙◌}
 use Rattle.std.proofs.lemmas.Bool.{cond-true, cond-false, le-ltb}
 use Rattle.lis_grammar.specs.Formula.{Formula}

@@ -5,7 +5,7 @@ use Rattle.std.proofs.lemmas.List.{length-take}
 use Rattle.lis_parts.specs.Putting.{view_limit}
 use Rattle.lis_parts.specs.Inside.{TakesBehind, TakesMore}
 
--- so many bytes came behind those that were there
+-- this many bytes came after those that were there
 pub taken_more : {E : Type 0} {left_before left : Option (List ℕ)} {faults_before faults behind : ℕ} {old new : List ℕ} (len count : ℕ) → length old ≡ view_limit + 1 → length new ≡ view_limit + 1
     → len < view_limit + 1 → TakesBehind {E = E} left_before left faults_before faults behind len old new (Ok count) → TakesMore {E = E} left_before left (take len old) (take (len + count) new) (Ok count)
 taken_more {old = old} {new} len count wide wide_now room takes =

@@ -56,7 +56,7 @@ reading_ends (Err e) reading =
     let run = reading.disk.reads.run in
     record { cause = (reading.disk.cause.rose, run.show_faults); first_fault = reading.disk.first_fault.ends; same = record { honest = run.honest; len = run.len; recorded = run.recorded } }
 
--- Nothing is shown where a file is loaded.
+-- Nothing is shown when a file is loaded.
 pub load_shows : {E : Type 0} {k : Stored} {old new : Meaning} (result : Result (Unit {0}) E) → Reading k old new result → Shows k (λ state. []) old new (as_end result)
 load_shows {new = new} (Ok u) reading = record {
   shows = λ state fitting. block_item [] fitting (reading.disk.reads.moments fitting.honest) (reading.disk.reads.same fitting.honest) (Ok tt) (reading.fits state fitting.own) (answers_none new);
@@ -69,7 +69,7 @@ load_shows (Err e) reading = record {
   disk = reads_stay reading.disk.reads;
 }
 
--- A text that is made of the file's bytes: the file could not be loaded, or it was and then the text is shown.
+-- A text that is made from the file's bytes: the file could not be loaded, or it was loaded and then the text is shown.
 module _ {E : Type 0} {k : Stored} {a b : Meaning} (text : State → List ℕ) where
   pub loaded_broke : (failed : E) → Reading k a b (Err failed) → Shows k text a b (Err DiskFault)
   loaded_broke failed reading = shown_front (λ state. []) text DiskFault (load_shows (Err failed) reading)
@@ -83,7 +83,7 @@ module _ {E : Type 0} {k : Stored} {a b : Meaning} (text : State → List ℕ) w
 abbrev pub HasSize : Stored → ℕ → ℕ → Type 0
 HasSize k slot size = IsSomeAnd (rec_at k.metadata.catalog slot) (λ (rec : FileRecord). size ≡ rec.size)
 
--- each file can be loaded whole
+-- all bytes of each file fit in a payload
 pub size_within : {k : Stored} (slot size : ℕ) → IsSound k → HasSize k slot size → size ≤ payload_limit
 size_within {k} slot size sound told = by (rec_at k.metadata.catalog slot) refl told
   where
@@ -105,7 +105,7 @@ loaded_none k slot size old payload is = record { so_far = ap (λ (p : Payload).
     none [] = refl
     none (b ∷ bytes) = refl
 
--- so much of a block is one of the file
+-- this much of a block is a block of the file
 abbrev pub IsBlock : Stored → ℕ → ℕ → Meaning → List ℕ → Type 0
 IsBlock k slot n old buf =
     (s : State) (name : List ℕ) → StoreFits k old s → slot_of k.metadata.catalog name ≡ Some slot → take (length (block_of n (file_of s.files name).bytes)) buf ≡ block_of n (file_of s.files name).bytes

@@ -1,4 +1,4 @@
--- Edited views that are put back into a file of a state, worked by the definitions alone.
+-- Edited views that are put back into a file of a state, worked out by the definitions alone.
 use Rattle.std.proofs.Common.{◌≡◌, ℕ, List, [], ◌∷◌, codes, refl}
 use Rattle.std.specs.Fmt.{digits}
 use Rattle.lis_grammar.specs.Machine.{text_steps}
@@ -57,6 +57,6 @@ other_marks : put_alphas (codes "+x\n") ≡ only_shows (codes "no 27 marks\n") n
 unfolding digits text_steps is_place printed
 other_marks = refl
 
--- of an input that is too long nothing is shown, whatever it begins with
+-- if an input is too long nothing is shown, whatever it begins with
 too_long : put_by Limit now (codes "notes.txt") (codes "word:alpha") edited ≡ only_shows [] now
 too_long = refl

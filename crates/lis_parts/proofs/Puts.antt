@@ -1,4 +1,4 @@
--- What an edited view makes of a file, carried out behind the reading of the file.
+-- What an edited view makes of a file, after the file is read.
 use Rattle.std.proofs.Common.{◌≡◌, ℕ, not, is_some, List, [], ◌∷◌, Option, Some, None, Result, Ok, Err, refl, ap, sym, subst, ◌∙◌, inl}
 use Rattle.std.specs.Io.KnownBytes.{append_known}
 use Rattle.lis_ports.specs.Meaning.{Meaning}
@@ -37,7 +37,7 @@ use Rattle.lis_session.proofs.Moments.{adds_later}
 use Rattle.lis_session.proofs.Saying.{quiet_broke, unchanged_past, shows_item}
 use Rattle.lis_parts.specs.Commands.{done_of, not_a_view_line, marks_line, put_as}
 
--- ---- an item behind a reading
+-- ---- an item after a read
 module _ {P : Type 0} {k : Stored} {now : SituationOf P} {old mid : Meaning} (outcome : OutcomeOf P) (fitting : FitsAt (StoreFits k old) old now.state) (read : Leaves old mid old.images) (same : IsUnchanged old mid) where
   -- the file could not be read
   pub read_broke : (fits : State → Type 0) (place : P) → OneItem now outcome old mid (Err DiskFault) fits place

@@ -1,4 +1,4 @@
--- Bytes that are said one piece after another, and are shown when there is no more room.
+-- Bytes that are appended piece by piece, and are shown when there is no more room.
 use Rattle.std.proofs.Common.{◌≡◌, ℕ, List, [], ◌++◌, Result, Ok, Err, OnOk, OnErr, refl, ap, sym, subst, ◌∙◌, append_assoc, append-nil}
 use Rattle.std.specs.Result.{IsErrAnd}
 use Rattle.lis_ports.specs.Meaning.{Meaning}
@@ -17,7 +17,7 @@ pub says_broke : {old new : Meaning} {before after bytes : List ℕ} {end : End}
 says_broke {result = Ok u} front same = absurd same
 says_broke {before = before} {bytes = bytes} {end} {result = Err e} front same = rw same (record { shown = before ++ bytes; answers = answers_front before bytes end front; kept = tt; all = refl })
 
--- it was, and the piece is shown behind it
+-- it was shown, and then the piece is
 pub says_shown : {old mid new : Meaning} {before after bytes : List ℕ} {u : Unit {0}} {result : Result (Unit {0}) End} → Answers old mid before (Ok u) → after ≡ [] → Answers mid new bytes result → Says old new before after bytes result
 says_shown {before = before} {after} {bytes} {u} {result} front none last = record { shown = before ++ bytes; answers = answers_then before bytes u result front last; kept = whole result; all = same result }
   where
@@ -63,7 +63,7 @@ module _ {a b : Meaning} {before mid first : List ℕ} where
   })
 
 -- ---- what a loop keeps
--- So much of the text was said since the start, and this is left.
+-- This much of the text was appended since the start, and this is left.
 pub record SaidSoFar (text left : List ℕ) (old now : Meaning) (before kept : List ℕ) : Type 0 where
   pub said : List ℕ
   pub says : Says old now before kept said (Ok tt)

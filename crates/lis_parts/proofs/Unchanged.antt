@@ -35,7 +35,7 @@ use Rattle.lis_session.specs.Session.{root_of}
 use Rattle.lis_parts.specs.Commands.{formula_of, done_of, bytes_of, put_as}
 use Rattle.lis_parts.specs.Laws.{lacks_space, space_line, LeavesState, UnchangedViewLeaves}
 
--- ---- a file that is taken out of a list and put in again
+-- ---- a file that is removed from a list and inserted again
 is_below : (a b : File) → is_lt (file_cmp a b) ≡ true → file_cmp a b ≡ Less
 is_below a b is = by (file_cmp a b) is
   where
@@ -48,7 +48,7 @@ module _ (file : File) (files : List File) (below : list_all (λ other. is_lt (f
   first_below : (other : File) → Among files other → file_cmp file other ≡ Less
   first_below other there = is_below file other (all_among (λ other. is_lt (file_cmp file other)) files other below there)
 
-  -- no other has its name
+  -- no other file has its name
   first_alone : (name : List ℕ) → file.name ≡ name → (other : File) → Among files other → not (same_word other.name name) ≡ true
   first_alone name is other there = by (same_word other.name name) refl
     where
@@ -87,7 +87,7 @@ put_again (file ∷ files) name rising has = by (same_word file.name name) refl 
         ap (λ r. match_ordering r (old ∷ file ∷ others) (file ∷ others) (file ∷ insert_key file_cmp others old)) above ∙ ap (λ fs. file ∷ fs) (more some)
 
 -- ---- a file that is written as it is
--- a row of which the last refusal alone may stand
+-- a row of which only the last refusal may hold
 row_left : (now : Situation) (done : Outcome) (large nowhere many crowded full : Bool) → large ≡ false → nowhere ≡ false → many ≡ false → crowded ≡ false
     → judged now ((large, LargeFile) ∷ (nowhere, NoFileHere) ∷ (many, LargeDescription) ∷ (crowded, NoPropertyRoom) ∷ (full, NoSpace) ∷ []) done ≡ cond full (refused now NoSpace) done
 row_left now done large nowhere many crowded full a b c d = rw (a, b, c, d) refl

@@ -39,7 +39,7 @@ one_text : (number : ℕ) (shown : Option (List ℕ)) (parts : List Piece) → p
 one_text number None parts = refl
 one_text number (Some text) parts = refl
 
--- the first stretch of a content, and what stands behind it
+-- the first stretch of a content, and what follows it
 pub stretch_text : (number : ℕ) (bytes rest : List ℕ) (place : List Formula) (run : List (List ℕ)) (hidden : ℕ) (shown : Option (List ℕ))
     → pieces bytes place ≡ run_piece run ++ (shown_piece shown ++ pieces rest place) → hidden ≡ length run
     → pieces_text number bytes place ≡ (mark_text number hidden ++ shown_text shown) ++ pieces_text (next_number number hidden) rest place
@@ -51,7 +51,7 @@ stretch_text number bytes rest place run hidden shown is count =
     ∙ (ap (λ text. mark_text number hidden ++ text) (one_text (next_number number hidden) shown (pieces rest place))
     ∙ sym (append_assoc (mark_text number hidden) (shown_text shown) behind))))
 
--- what stands where nothing is shown
+-- what holds if nothing is shown
 pub where_none : {X P : Type 0} (shown : Option X) → is_some shown ≡ false → IfNone shown P → P
 where_none None none p = p
 where_none (Some x) none p = absurd (let no : ◌≡◌ {A = Bool} true false = none in cc)

@@ -1,4 +1,4 @@
--- What viewing a part of a file and putting it back do: the new state, and the reply. Both are said at the root.
+-- What viewing a part of a file and putting it back do: the new state, and the reply. Both are done at the root.
 use Rattle.std.specs.Prelude.{ℕ, nat_lt, not, if◌then◌else◌, Result, Ok, Err, List, [], ◌∷◌, ◌++◌, length, codes}
 use Rattle.lis_limits.specs.declared.TheConstants.{MAX_FORMULA}
 use Rattle.lis_grammar.specs.Formula.{Formula}
@@ -17,11 +17,11 @@ use Rattle.lis_views.specs.Edits.Back.{NotAView, WrongMarks, Content}
 use Rattle.lis_store.specs.Retagging.{place_or_refusal}
 use Rattle.lis_session.specs.Parts.{only_shows}
 
--- The steps that a formula text stands for. A text of more than 1,024 bytes is too large whatever it holds; `..` is no formula here.
+-- The steps that a formula text represents. A text of more than 1,024 bytes is too large, whatever it holds. `..` is no formula here.
 abbrev pub formula_of : List ℕ → Resolution
 formula_of text = if nat_lt MAX_FORMULA (length text) then BeyondLimits else resolved_path [] (text_steps text)
 
--- what is done of a file with a formula: first the formula is judged, and then whether the state has the file
+-- what is done with a file by a formula: first the formula is judged, and then whether the state has the file
 abbrev pub done_of : Situation → List ℕ → Result (List Formula) Refusal → (List Formula → Outcome) → Outcome
 done_of now name (Err refusal) done = refused now refusal
 done_of now name (Ok place) done = judged now ((not (has_name now.state.files name), NoFileHere) ∷ []) (done place)

@@ -11,13 +11,13 @@ pub record IsKept (region : Region ℕ) (frame : ℕ) : Type 0 where
   pub taken : HasFrame region frame
   pub wide : length (frame_bytes region frame) ≡ view_limit + 1
 
--- A source was asked for bytes behind the first `len` of a frame, which stay.
+-- A source was called for bytes after the first `len` of a frame, which stay.
 pub record TakesBehind {E : Type 0} (left_before left : Option (List ℕ)) (faults_before faults behind : ℕ) (len : ℕ) (old new : List ℕ) (result : Result ℕ E) : Type 0 where
   pub buf : List ℕ
   pub is : new ≡ take len old ++ buf
   pub call : IsTake left_before left faults_before faults behind buf result
 
--- The next bytes of a source stand behind those that were there; none came only at its end, and a call that failed took none.
+-- The next bytes of a source follow those that were there. None came only at its end, and a call that failed took none.
 abbrev pub TakesMore : {E : Type 0} → Option (List ℕ) → Option (List ℕ) → List ℕ → List ℕ → Result ℕ E → Type 0
 TakesMore left_before left old new (Ok count) =
     (bytes : List ℕ) × Consumes left_before left bytes × (new ≡ old ++ bytes) × (length bytes ≡ count) × (count ≡ 0 → IsAtEnd left)

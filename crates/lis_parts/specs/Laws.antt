@@ -1,4 +1,4 @@
--- What comes of a view that is put back as it was shown.
+-- What happens to a view that is put back as it was shown.
 use Rattle.std.specs.Prelude.{◌≡◌, ℕ, ◌==◌, nat_lt, Bool, ◌&&◌, if◌then◌else◌, List, length}
 use Rattle.lis_model.specs.declared.refusal.Refusal.TheVariants.{NoSpace}
 use Rattle.lis_model.specs.State.{State, File, WellFormed, blocks_taken}
@@ -10,19 +10,19 @@ use Rattle.lis_session.specs.Parts.{only_shows}
 use Rattle.lis_session.specs.Session.{root_of}
 use Rattle.lis_parts.specs.Commands.{formula_of, done_of, view, put}
 
--- The blocks that a file takes are not free a second time. Version 2 keeps its old ones until the new ones are written, and version 1 writes over
--- them.
+-- Too few blocks are free for the file's bytes a second time. Version 2 keeps the old blocks until the new ones are written, and version 1
+-- writes over them.
 abbrev pub lacks_space : State → File → Bool
 lacks_space s file = (s.limits.version == 2) && nat_lt (free_blocks s) (blocks_taken s.limits.version (length file.bytes))
 
 abbrev pub space_line : State → File → List ℕ
 space_line s file = if lacks_space s file then refusal_line NoSpace else ok_line
 
--- what is put back: the very bytes that viewing the file shows
+-- what is put back: exactly the bytes that viewing the file shows
 abbrev pub put_unchanged : State → List ℕ → List ℕ → Outcome
 put_unchanged s name text = put (root_of s) name text (view (root_of s) name text).reply
 
--- The state stays. What the view was refused for, this is refused for as well; else the answer is `ok`, but for want of space.
+-- The state stays. What the view was refused for, this is refused for as well. Otherwise the reply is `ok`, except for lack of space.
 pub record LeavesState (s : State) (name text : List ℕ) : Type 0 where
   pub state : (put_unchanged s name text).next ≡ root_of s
   pub answer : put_unchanged s name text

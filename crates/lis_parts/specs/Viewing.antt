@@ -5,7 +5,7 @@ use Rattle.lis_grammar.specs.Formula.{Formula}
 use Rattle.lis_model.specs.Replies.{line}
 use Rattle.lis_views.specs.Views.{numeral, pieces, piece_lines}
 
--- the mark of a run with its number; none where no line is hidden
+-- the mark of a run with its number; none if no line is hidden
 abbrev pub mark_text : ℕ → ℕ → List ℕ
 mark_text number hidden = if nat_lt 0 hidden then line (64 ∷ numeral number ++ 32 ∷ numeral hidden) else []
 
@@ -20,6 +20,6 @@ shown_text (Some text) = line (43 ∷ text)
 abbrev pub end_text : Bool → List ℕ
 end_text is_open = if is_open then line (codes "!") else []
 
--- the lines of a content's pieces, where the first run has this number
+-- the lines of a content's pieces, if the first run has this number
 abbrev pub pieces_text : ℕ → List ℕ → List Formula → List ℕ
 pieces_text number bytes place = flat_map line (piece_lines number (pieces bytes place))

@@ -1,4 +1,4 @@
-//! An edited view, taken whole from a source before anything is judged.
+//! An edited view, read to its end from a source before anything is judged.
 
 ghost use Rattle.std.specs.Prelude.{◌≡◌, ◌+◌, ◌<◌, ◌≤◌, ◌↔◌, ℕ, List, [], Some, length, IfOk, IsTrue, true};
 ghost use Rattle.lis_ports.specs.Calls.{HasCause};
@@ -13,7 +13,7 @@ use lis_region::{Frame, Region};
 use std::alloc::{AllocError, Global};
 use std::marker::Model;
 
-/// One byte more than an edited view may have, so that a longer one is seen.
+/// One byte more than an edited view may have, so that a longer one is noticed.
 const ROOM: u32 = MAX_VIEW + 1;
 
 /// The bytes of an edited view.
@@ -37,7 +37,7 @@ impl Model for Edited {
     ghost invariant = { λ e. IsKept e.region e.frame × (e.len ≤ view_limit + 1) };
 }
 
-// Takes the next bytes of the source into the room behind the first `len`, and answers how many.
+// Takes the next bytes of the source into the room after the first `len`, and returns how many.
 fn take_behind<S: Source>(
     region: &mut Region<u8>,
     frame: &Frame,
@@ -54,7 +54,7 @@ fn take_behind<S: Source>(
 }
 
 impl Edited {
-    /// No bytes. All memory that it will use is taken here.
+    /// No bytes. All memory that it will use is allocated here.
     pub fn new(alloc: Global) -> Result<Edited, AllocError>
         ensures { IfOk result (λ edited. edited ≡ []) }
     {
@@ -89,7 +89,7 @@ impl Edited {
         self.len < ROOM as usize
     }
 
-    // Takes the next bytes of the source behind those that it has, and answers how many.
+    // Takes the next bytes of the source and appends them, and returns how many.
     fn take_more<S: Source>(&mut self, source: &mut S) -> Result<usize, Failed>
         requires room { length self.old < view_limit + 1 }
         ensures more { TakesMore (S.left source.old) (S.left source.new) self.old self.new result }
@@ -102,8 +102,8 @@ impl Edited {
         Ok(count)
     }
 
-    /// Takes all bytes of the source in place of those that it has, and answers whether these are all: where there are more than an
-    /// edited view may have it takes one of these, and no more.
+    /// Replaces its bytes by all bytes of the source, and returns whether these are all. If there are more than an edited view may have, it
+    /// takes only one byte more than that.
     pub fn gather<S: Source>(&mut self, source: &mut S) -> Result<bool, Failed>
         ensures gathers { IfOk result (λ whole. (input : List ℕ) → S.left source.old ≡ Some input → Gathers input (S.left source.new) self.new whole) }
         ensures short { IfOk result (λ whole. whole ≡ true → length self.new ≤ view_limit) }

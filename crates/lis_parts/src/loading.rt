@@ -13,7 +13,7 @@ use lis_line::reader::Payload;
 use lis_ports::{Disk, Failed};
 use lis_store::Store;
 
-// Reads the index block of the file in the slot, which has so many bytes, where it has one.
+// Reads the index block of the file in the slot, which has this many bytes, if it has one.
 fn read_index<D: Disk>(
     store: &Store,
     slot: u16,
@@ -35,7 +35,7 @@ fn read_index<D: Disk>(
     store.index(disk, slot, index)
 }
 
-/// Reads the bytes of the file in the slot, which has so many.
+/// Reads the bytes of the file in the slot, which has this many.
 pub fn load<D: Disk>(
     store: &Store,
     slot: u16,

@@ -33,7 +33,7 @@ use lis_session::replies::{answer_bytes, answer_refusal, conclude};
 use lis_store::{Store, Write};
 use lis_words::Name;
 
-// Reads the file in the slot, and makes of it what the edited view asks for.
+// Reads the file in the slot, and makes its new bytes by the edited view.
 fn make_new<D: Disk>(
     store: &Store,
     file: &mut Payload,
@@ -57,7 +57,7 @@ fn make_new<D: Disk>(
     Ok(put_back(place, file.bytes(), edited, made))
 }
 
-// Writes what the edited view makes of the file, or shows why it makes nothing of it.
+// Writes what the edited view makes of the file, or shows why the view is refused.
 fn carry_back<T: Station>(
     store: &mut Store,
     scratch: &mut Scratch,
@@ -89,7 +89,7 @@ fn carry_back<T: Station>(
     }
 }
 
-/// An edited view, which was taken whole, the name of its file and the text of its formula.
+/// An edited view, which was read to its end, the name of its file and the text of its formula.
 #[derive(Clone, Copy)]
 struct Edit<'a> {
     name: &'a Name,
@@ -130,12 +130,12 @@ fn put_back_file<T: Station>(
     carry_back(store, scratch, station, edit.name, returned, made)
 }
 
-/// Reads an edited view of the file of that name under the formula of the text, and writes what it makes of the file: the hidden lines
-/// stand at their marks, and the others are those of the view. The input is read to its end before anything is judged, and at most one
-/// byte past 8,388,608; a longer input changes and shows nothing.
+/// Reads an edited view of the file of that name under the formula of the text, and writes what it makes of the file: the hidden lines are
+/// at their marks, and the others are those of the view. It reads the input to its end before anything is judged, and at most one byte past
+/// 8,388,608. A longer input changes and shows nothing.
 ///
-/// It is refused where the text is no formula or too large, where the state has no such file, where the input is not in the form of a
-/// view, where its marks are not those of the view, each once and in order, and then as a `write` of the new bytes is.
+/// It is refused if the text is no formula or too large, if the state has no such file, if the input is not a view, if its marks are not
+/// those of the view, each once and in order, and then as a `write` of the new bytes is.
 pub fn put_file<S: Source, T: Station>(
     store: &mut Store,
     workspace: &mut Workspace,

@@ -1,4 +1,4 @@
-//! Showing many small pieces by few calls.
+//! Showing many small pieces in few calls.
 
 ghost use Rattle.std.specs.Prelude.{◌≡◌, ◌+◌, ◌≤◌, [], ◌++◌, length, OnOk};
 ghost use Rattle.arrayvec.specs.ArrayVec.{array_vec_len};
@@ -10,10 +10,10 @@ use lis_ports::Station;
 use lis_session::end::End;
 use lis_session::replies::answer_bytes;
 
-/// How many bytes are kept at most.
+/// The most bytes that are kept.
 const ROOM: usize = 8_192;
 
-/// Bytes that are to be shown, and are kept until there is no room for more.
+/// Bytes to be shown, which are kept until there is no room for more.
 pub type Outgoing = ArrayVec<u8, ROOM>;
 
 /// Shows the bytes that are kept.
@@ -33,7 +33,7 @@ fn keep(kept: &mut Outgoing, bytes: &[u8])
     kept.try_extend_from_slice(bytes).unwrap();
 }
 
-/// Puts the bytes behind those that are kept, and shows what there is no room for.
+/// Appends the bytes to those that are kept, and shows those for which there is no room.
 pub fn say<T: Station>(station: &mut T, kept: &mut Outgoing, bytes: &[u8]) -> Result<(), End>
     ensures { Says (T.meaning station.old) (T.meaning station.new) kept.old.items kept.new.items bytes.now result }
 {

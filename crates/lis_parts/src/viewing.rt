@@ -29,7 +29,7 @@ use lis_session::replies::answer_refusal;
 use lis_store::Store;
 use lis_words::Name;
 
-// The mark of a run with this number, where any lines are hidden.
+// The mark of a run with this number, if any lines are hidden.
 fn say_mark<T: Station>(
     station: &mut T,
     kept: &mut Outgoing,
@@ -144,8 +144,8 @@ fn view_slot<T: Station>(
     show_view(station, place, workspace.file.bytes())
 }
 
-/// Shows the lines of the file of that name of which the formula of the text holds, and a mark in place of each run of others. The text
-/// is refused where it is no formula or too large, and else the name where the state has no such file.
+/// Shows the lines of the file of that name of which the formula of the text holds, and a mark instead of each run of others. The text is
+/// refused if it is no formula or too large, and otherwise the name if the state has no such file.
 pub fn view_file<T: Station>(
     store: &Store,
     workspace: &mut Workspace,

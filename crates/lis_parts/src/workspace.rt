@@ -10,7 +10,7 @@ use lis_model::limits::Limits;
 use std::alloc::{AllocError, Global};
 use std::marker::Model;
 
-/// Room for the bytes of one file, for an edited view of it, and for the bytes that are made of both.
+/// Room for the bytes of one file, for an edited view of it, and for the bytes made from both.
 #[derive(Drop)]
 pub struct Workspace {
     limits: Limits,
@@ -35,7 +35,7 @@ impl Model for Workspace {
 }
 
 impl Workspace {
-    /// Memory for files of a state of these limits. No call that is handed it takes more.
+    /// Memory for files of a state of these limits. No call that gets it allocates more.
     pub fn new(alloc: Global, limits: &Limits) -> Result<Workspace, AllocError>
         requires { IsTrue (are_in_range limits.now) }
         ensures { IfOk result (λ workspace. workspace ≡ limits.now) }

@@ -1,4 +1,4 @@
--- Where a row of refusals ends.
+-- How a row of refusals ends.
 use Rattle.std.proofs.Common.{◌≡◌, Bool, true, false, cond, Some, None, List, [], ◌∷◌, refl, ap, sym, ◌∙◌}
 use Rattle.std.proofs.lemmas.Option.{none-some, same_Some}
 use Rattle.lis_model.specs.declared.refusal.Refusal.{Refusal}
@@ -14,7 +14,7 @@ pub as_done : (made after : Situation) (outcome : Outcome) → outcome ≡ recor
     → (made ≡ outcome.next) × (outcome.reply ≡ ok_line)
 as_done made after outcome is same = (same ∙ sym (ap (λ (o : Outcome). o.next) is), ap (λ (o : Outcome). o.reply) is)
 
--- ---- rows as they are answered
+-- ---- rows as they are judged
 pub row_some : (checks : List (Bool × Refusal)) (now : Situation) (done : Outcome) (refusal : Refusal) → first_refusal checks ≡ Some refusal
     → judged now checks done ≡ refused now refusal
 row_some [] now done refusal is = absurd (none-some refusal is)

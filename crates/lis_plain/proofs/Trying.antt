@@ -1,4 +1,4 @@
--- A session over a plain state, on the way.
+-- A session over a plain state, in progress.
 use Rattle.std.proofs.Common.{List, [], ◌∷◌, ◌++◌, Option, Some, None, Result, Ok, Err, IfOk, IfSome, MatchResult, ap, sym, subst, ◌∙◌, refl, append-nil, arith}
 use Rattle.std.specs.Io.KnownBytes.{append_known}
 use Rattle.lis_ports.specs.Meaning.{Meaning}
@@ -21,7 +21,7 @@ tried_none start m = record {
   first_fault = omega arith;
 }
 
--- the step at the place where the first items led, and from what they have shown
+-- the step at the place to which the first items led, and from what they have shown
 carried_here : (start : Situation) (entry : Meaning) (first : List Item) (now next : Situation) (m n : Meaning) (item : Item) (result : Result (Unit {0}) PlainEnd)
     → Tried start entry first now m → Carries (step now item) now next m.shown n.shown result
     → Carries (step (situation_after start first) item) (situation_after start first) next (append_known entry.shown (replies start first)) n.shown result
@@ -29,7 +29,7 @@ carried_here start entry first now next m n item result tried carried =
     subst (λ known. Carries (step (situation_after start first) item) (situation_after start first) next known n.shown result) tried.shown
     (subst (λ s. Carries (step s item) s next m.shown n.shown result) tried.at carried)
 
--- an item more was carried out
+-- one more item was run
 tried_more : (start : Situation) (entry : Meaning) (first : List Item) (now next : Situation) (m n : Meaning) (item : Item) (u : Unit {0})
     → Tried start entry first now m → Carries (step now item) now next m.shown n.shown (Ok u) → IsShowCall m n → StationFaultEnds m n → HasPlainCause m.show_faults n.show_faults (Ok u)
     → Tried start entry (first ++ item ∷ []) next n
@@ -57,7 +57,7 @@ tried_into start entry first now next m n item fault tried carried call ends cau
   cause = subst (λ count. HasPlainCause count n.show_faults (Err fault)) tried.show_faults cause;
 }
 
--- the asked item, whatever its step answered
+-- the requested item, whatever its step returned
 pub tried_on : (start : Situation) (entry : Meaning) (first : List Item) (now next : Situation) (m n : Meaning) (asked : Option Item) (result : Result (Unit {0}) PlainEnd)
     → Tried start entry first now m → IfSome asked (λ item. Carries (step now item) now next m.shown n.shown result) → IsShowCall m n → StationFaultEnds m n → HasPlainCause m.show_faults n.show_faults result
     → IfSome asked (λ item. MatchResult result (λ u. Tried start entry (first ++ item ∷ []) next n) (λ fault. TriedInto start entry first item fault next n))

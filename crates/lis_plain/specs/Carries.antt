@@ -1,4 +1,4 @@
--- What carrying out one item does to a plain state and to what was shown.
+-- What running one item does to a plain state and to what was shown.
 use Rattle.std.specs.Prelude.{◌≡◌, ℕ, Bool, List, [], ◌∷◌, Option, Some, None, Result, Ok, Err}
 use Rattle.std.specs.Io.KnownBytes.{append_known}
 use Rattle.lis_ports.specs.Calls.{Rose}
@@ -11,30 +11,30 @@ use Rattle.lis_model.specs.Replies.{ok_line, refusal_line}
 use Rattle.lis_plain.specs.declared.end.PlainEnd.{PlainEnd}
 use Rattle.lis_plain.specs.declared.end.PlainEnd.TheVariants.{OutputFault, NoMemory}
 
--- At Ok the reply was shown whole. At a fault of showing a front of it was, and the step was made all the same. For want of memory
--- nothing happened.
+-- At Ok the whole reply was shown. At a show fault a prefix of it was shown, and the step was made all the same. If memory ran out, nothing
+-- happened.
 abbrev pub Carries : Outcome → Situation → Situation → Option (List ℕ) → Option (List ℕ) → Result (Unit {0}) PlainEnd → Type 0
 Carries outcome old new before now (Ok done) = (new ≡ outcome.next) × (now ≡ append_known before outcome.reply)
 Carries outcome old new before now (Err OutputFault) = (new ≡ outcome.next) × AppendsFront before now outcome.reply
 Carries outcome old new before now (Err NoMemory) = (new ≡ old) × (now ≡ before)
 
--- the output fault comes only where the count of faults of showing rose
+-- the result is an output fault only if the count of show faults rose
 abbrev pub HasPlainCause : ℕ → ℕ → Result (Unit {0}) PlainEnd → Type 0
 HasPlainCause before now (Ok done) = now ≡ before
 HasPlainCause before now (Err OutputFault) = Rose before now
 HasPlainCause before now (Err NoMemory) = now ≡ before
 
--- what a command that shows only `ok` or its refusal is answered
+-- the reply to a command that shows only `ok` or its refusal
 abbrev pub answer_line : Result (Unit {0}) Refusal → List ℕ
 answer_line (Ok done) = ok_line
 answer_line (Err refusal) = refusal_line refusal
 
--- such a command, before its answer is shown
+-- such a command, before its reply is shown
 abbrev pub IsAnswered : {E : Type 0} → Outcome → Situation → Situation → Result (Result (Unit {0}) Refusal) E → Type 0
 IsAnswered outcome old new (Ok answer) = (new ≡ outcome.next) × (outcome.reply ≡ answer_line answer)
 IsAnswered outcome old new (Err error) = new ≡ old
 
--- a row, as the code answers it
+-- a row, as the code judges it
 abbrev pub Says : List (Bool × Refusal) → Result (Unit {0}) Refusal → Type 0
 Says checks (Ok done) = first_refusal checks ≡ None
 Says checks (Err refusal) = first_refusal checks ≡ Some refusal

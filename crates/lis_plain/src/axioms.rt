@@ -55,7 +55,7 @@ fn begins_with_axiom(axioms: &[Axiom], pair: &Axiom) -> bool
     }
 }
 
-/// Puts the axiom at its place in the order, unless it is there.
+/// Inserts the axiom at its index in the order, unless it is there.
 pub fn insert_axiom(axioms: &mut Vec<Axiom>, pair: Axiom) -> Result<(), AllocError>
     ensures ok { OnOk result (axioms.new.items ≡ with_axiom axioms.old.items pair) }
     ensures err { OnErr result (axioms.new.items ≡ axioms.old.items) }
@@ -69,7 +69,7 @@ pub fn insert_axiom(axioms: &mut Vec<Axiom>, pair: Axiom) -> Result<(), AllocErr
     Ok(())
 }
 
-/// Puts an axiom from the left word to each of the others at its place.
+/// Inserts an axiom from the left word to each of the others.
 pub fn insert_axioms(
     axioms: &mut Vec<Axiom>,
     left: &Word,
@@ -94,7 +94,7 @@ pub fn axioms_copied(alloc: Global, axioms: &[Axiom]) -> Result<Vec<Axiom>, Allo
     axioms.iter().map(|pair| pair.copied()).collect(alloc)
 }
 
-/// All axioms but this one.
+/// All axioms except this one.
 pub fn without_axiom(
     alloc: Global,
     axioms: &[Axiom],

@@ -1,4 +1,4 @@
-//! A plain state carries out the items of a session.
+//! A plain state runs the items of a session.
 
 ghost use Rattle.lis_plain.specs.Tried.{Tried, TriedInto};
 

@@ -22,14 +22,14 @@ pub fn file_limit(version: u32) -> u64
     }
 }
 
-/// How many blocks so many bytes take.
+/// How many blocks this many bytes take.
 fn blocks_needed(bytes: u64) -> u64
     ensures { result ≡ blocks_needed bytes }
 {
     bytes.div_ceil(BLOCK_LEN as u64)
 }
 
-/// How many blocks a file of so many bytes takes.
+/// How many blocks a file of this many bytes takes.
 pub fn blocks_taken(version: u32, bytes: u64) -> u64
     ensures { result ≡ blocks_taken version bytes }
 {
@@ -40,7 +40,7 @@ pub fn blocks_taken(version: u32, bytes: u64) -> u64
     needed
 }
 
-/// How many of the blocks no file takes; 0 where the files take more.
+/// How many blocks no file takes; 0 if the files take more than there are.
 pub fn free_blocks(version: u32, blocks: u32, files: &[File]) -> u64
     ensures { result ≡ blocks - sum (map (λ (file : File). blocks_taken version (length file.bytes)) files.now) }
 {
@@ -51,7 +51,7 @@ pub fn free_blocks(version: u32, blocks: u32, files: &[File]) -> u64
     free
 }
 
-/// The bytes of the file of that name; none where there is no such file.
+/// The bytes of the file of that name; none if there is no such file.
 pub fn bytes_of<'a>(files: &'a [File], name: &Name) -> &'a [u8]
     ensures { result.now ≡ (file_of files.now name.now).bytes }
 {
@@ -77,7 +77,7 @@ pub fn content_reply(alloc: Global, bytes: &[u8]) -> Result<Vec<u8>, AllocError>
     Ok(reply)
 }
 
-/// Puts a line of a label and a number behind the reply.
+/// Appends a line of a label and a number to the reply.
 pub fn push_number(reply: &mut Vec<u8>, label: &[u8], number: u64) -> Result<(), AllocError>
     ensures { OnOk result (reply.new.items ≡ reply.old.items ++ number_line label.now number) }
 {

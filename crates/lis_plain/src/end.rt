@@ -1,14 +1,14 @@
-//! Why an item could not be carried out, or its reply not be shown.
+//! Why an item could not be run, or its reply could not be shown.
 
 use lis_ports::Failed;
 use std::alloc::{AllocError, AllocFailed};
 
-/// Why carrying out an item stopped.
+/// Why running an item stopped.
 #[derive(Clone, Copy, Debug, PartialEq, Eq)]
 pub enum PlainEnd {
-    /// The station counted a fault of showing. The step was made; a front of the reply was shown.
+    /// The station counted a show fault. The step was made, and a prefix of the reply was shown.
     OutputFault,
-    /// There is no memory. State and place are as before, and nothing of the reply was shown.
+    /// Out of memory. State and place are as before, and nothing of the reply was shown.
     NoMemory,
 }
 

@@ -1,4 +1,4 @@
-//! A file by its name, its bytes and the words that it was given.
+//! A file by its name, its bytes and its assigned words.
 
 ghost use Rattle.std.specs.Prelude.{◌≡◌, [], IfOk};
 ghost use Rattle.lis_model.specs.Changes.{new_file, file_of};
@@ -53,7 +53,7 @@ impl File {
     }
 }
 
-/// The file of that name. Where there is none, an empty one, at which no command looks.
+/// The file of that name. If there is none, the result is an empty file, which no command reads.
 pub fn file_of(alloc: Global, files: &[File], name: &Name) -> Result<File, AllocError>
     ensures { IfOk result (λ file. file ≡ file_of files.now name.now) }
 {

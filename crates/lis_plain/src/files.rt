@@ -28,10 +28,10 @@ use lis_table::words::{are_assignable, copies};
 use lis_words::{Name, Word};
 use std::alloc::AllocError;
 
-/// The most words that a file is given.
+/// The most words that are assigned to a file.
 const MAX_TAGS: usize = 16;
 
-// ---- what rows ask
+// ---- what rows check
 
 impl Plain {
     pub(crate) fn is_here(&self, name: &Name) -> Result<bool, AllocError>
@@ -270,7 +270,7 @@ impl Plain {
 // ---- moved files
 
 impl Plain {
-    // Whether both places have words.
+    // Whether both places are places of words.
     fn are_places(&self, place: &Place) -> Result<bool, AllocError>
         ensures { IfOk result (λ both. both ≡ (is_some (place_words self.now.place) && is_some (place_words place.now))) }
     {

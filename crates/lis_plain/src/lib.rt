@@ -1,4 +1,4 @@
-//! The commands over plain lists: the program that computes each definition afresh.
+//! The commands over plain lists: the program that computes each definition every time.
 #![tactic(auto)]
 
 mod axioms;

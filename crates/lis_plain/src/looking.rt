@@ -39,7 +39,7 @@ fn words_reply(alloc: Global, letter: u8, words: &[Word]) -> Result<Vec<u8>, All
 // ---- files
 
 impl Plain {
-    // What `cat` shows; None where no file of that name is here.
+    // What `cat` shows; `None` if no file of that name is here.
     pub(crate) fn content(&self, name: &Name) -> Result<Option<Vec<u8>>, AllocError>
         ensures { IfOk result (λ found. MatchOption found (cat self.now name.now ≡ refused self.now NoFileHere)
             (λ reply. cat self.now name.now ≡ record { next = self.now; reply = reply.items })) }
@@ -59,7 +59,7 @@ impl Plain {
         Ok(words)
     }
 
-    // What `props` shows; None where no file of that name is here.
+    // What `props` shows; `None` if no file of that name is here.
     pub(crate) fn described(&self, name: &Name) -> Result<Option<Vec<u8>>, AllocError>
         ensures { IfOk result (λ found. MatchOption found (props self.now name.now ≡ refused self.now NoFileHere)
             (λ reply. props self.now name.now ≡ record { next = self.now; reply = reply.items })) }
@@ -89,7 +89,7 @@ impl Plain {
         route(self.alloc, &table, files, &file)
     }
 
-    // What `way` shows; None where no file of that name is here.
+    // What `way` shows; `None` if no file of that name is here.
     pub(crate) fn led(&self, name: &Name) -> Result<Option<Vec<u8>>, AllocError>
         ensures { IfOk result (λ found. MatchOption found (way self.now name.now ≡ refused self.now NoFileHere)
             (λ reply. way self.now name.now ≡ record { next = self.now; reply = reply.items })) }

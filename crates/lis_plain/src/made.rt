@@ -75,7 +75,7 @@ fn with_axioms(alloc: Global, state: &State, axioms: Vec<Axiom>) -> Result<State
     })
 }
 
-/// With one axiom more.
+/// With one more axiom.
 pub fn axiom_added(alloc: Global, state: &State, pair: &Axiom) -> Result<State, AllocError>
     ensures { IfOk result (λ made. made ≡ axiom_added state.now pair.now) }
 {
@@ -107,7 +107,7 @@ fn with_files(alloc: Global, state: &State, files: Vec<File>) -> Result<State, A
     })
 }
 
-/// With one file more.
+/// With one more file.
 pub fn file_added(alloc: Global, state: &State, file: &File) -> Result<State, AllocError>
     ensures { IfOk result (λ made. made ≡ file_added state.now file.now) }
 {
@@ -126,7 +126,7 @@ pub fn file_removed(alloc: Global, state: &State, name: &Name) -> Result<State, 
     Ok(made)
 }
 
-/// With a file in the place of that of this name.
+/// With a file instead of the one of this name.
 pub fn file_replaced(
     alloc: Global,
     state: &State,

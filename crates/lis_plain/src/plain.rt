@@ -1,4 +1,4 @@
-//! A state and a place as plain lists, and how an item is carried out.
+//! A state and a place as plain lists, and how an item is run.
 
 ghost use Rattle.std.specs.Prelude.{◌≡◌, Bool, List, IfOk, IfSome, IsSome, MatchOption};
 ghost use Rattle.lis_ports.specs.Calls.{IsShowCall, StationFaultEnds};
@@ -99,7 +99,7 @@ fn show_answer<T: Station>(station: &mut T, answer: &Answer) -> Result<(), Faile
     }
 }
 
-// Shows what a command that shows only `ok` or its refusal was answered.
+// Shows the reply to a command that shows only `ok` or its refusal.
 fn end_answer<T: Station>(
     answer: Result<Answer, AllocError>,
     station: &mut T,
@@ -206,7 +206,7 @@ impl Plain {
         Ok(())
     }
 
-    /// Carries out one item and shows its reply.
+    /// Runs one item and shows its reply.
     pub fn step<T: Station>(
         &mut self,
         item: &Item,

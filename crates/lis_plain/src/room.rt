@@ -1,4 +1,4 @@
-//! What rows ask of words and of the state that a command would give.
+//! What rows check of words and of the state that a command would give.
 
 ghost use Rattle.std.specs.Prelude.{◌≡◌, ◌&&◌, ◌||◌, IfOk};
 ghost use Rattle.std.specs.List.{list_any, list_all};
@@ -34,7 +34,7 @@ pub fn has_head_word(words: &[Word]) -> bool
     words.iter().any(|word| is_head(word.bytes()))
 }
 
-/// Whether the word can't be given to a file, as a head or a test.
+/// Whether the word is a head or a test, and so can't be assigned to a file.
 fn is_head_or_test(word: &Word) -> bool
     ensures { result ≡ is_head_or_test word.now }
 {
@@ -181,7 +181,7 @@ fn is_had(alloc: Global, state: &State, word: &Word) -> Result<bool, AllocError>
     Ok(described)
 }
 
-/// Whether the word is a side of an axiom, or, where it is no test, the head of a left side or a word of some file.
+/// Whether the word is a side of an axiom, or, if it is no test, the head of a left side or a word of some file.
 pub fn is_in_use(alloc: Global, state: &State, word: &Word) -> Result<bool, AllocError>
     ensures { IfOk result (λ used. used ≡ is_in_use state.now word.now) }
 {
@@ -212,7 +212,7 @@ fn exceeds_known(alloc: Global, state: &State) -> Result<bool, AllocError>
     Ok(words.len() > state.limits.props as usize)
 }
 
-/// Whether a file has more words than it may.
+/// Whether a file has too many words.
 fn exceeds_words(alloc: Global, state: &State) -> Result<bool, AllocError>
     ensures { IfOk result (λ exceeds. exceeds ≡ exceeds_words state.now) }
 {

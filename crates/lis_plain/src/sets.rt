@@ -38,7 +38,7 @@ fn begins_with_file(files: &[File], file: &File) -> bool
     }
 }
 
-/// Puts the file at its place in the order of names, unless there is one of its name.
+/// Inserts the file at its index in the order of names, unless there is one of its name.
 pub fn insert_file(files: &mut Vec<File>, file: File) -> Result<(), AllocError>
     ensures ok { OnOk result (files.new.items ≡ insert_key file_cmp files.old.items file) }
     ensures err { OnErr result (files.new.items ≡ files.old.items) }
@@ -63,7 +63,7 @@ pub fn files_copied(alloc: Global, files: &[File]) -> Result<Vec<File>, AllocErr
     Ok(copies)
 }
 
-/// All files but that of this name.
+/// All files except the one of this name.
 pub fn without_file(alloc: Global, files: &[File], name: &Name) -> Result<Vec<File>, AllocError>
     ensures { IfOk result (λ kept. kept.items ≡ filter (λ (file : Kept). not (same_word file.name name.now)) files.now) }
 {

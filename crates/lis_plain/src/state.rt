@@ -33,7 +33,7 @@ impl Model for State {
     ghost view = { λ s. record { limits = s.limits; declared = s.declared.items; axioms = s.axioms.items; files = s.files.items } };
 }
 
-/// The state of these limits that has nothing.
+/// The empty state of these limits.
 pub fn empty_state(alloc: Global, limits: &Limits) -> State
     ensures { result ≡ empty_state limits.now }
 {

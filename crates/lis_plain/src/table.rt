@@ -24,7 +24,7 @@ fn push_copies(words: &mut Vec<Word>, more: &[Word]) -> Result<(), AllocError>
     Ok(())
 }
 
-/// The words that a file has by itself.
+/// A file's own words.
 fn own_words(alloc: Global, declared: &[Word], file: &File) -> Result<Vec<Word>, AllocError>
     ensures { IfOk result (λ words. words.items ≡ own_words declared.now file.now) }
 {
@@ -36,7 +36,7 @@ fn own_words(alloc: Global, declared: &[Word], file: &File) -> Result<Vec<Word>,
     Ok(words)
 }
 
-/// The words of a file with all that they entail.
+/// A file's own words with all that they entail.
 fn file_words(
     alloc: Global,
     declared: &[Word],

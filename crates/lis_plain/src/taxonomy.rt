@@ -20,7 +20,7 @@ use lis_words::{Word, is_builtin, is_plain_word, is_valued};
 use std::alloc::AllocError;
 
 impl Plain {
-    // Whether the place has words, all of them plain.
+    // Whether the place is one of words, all of them plain.
     fn is_plain_place(&self) -> Result<bool, AllocError>
         ensures { IfOk result (λ plain. plain ≡ is_plain_place (place_words self.now.place)) }
     {

@@ -51,7 +51,7 @@ begins_more front bytes more b = record { rest = b.rest ++ more; is = ap (λ xs.
 pub begins_behind : (front first more : List ℕ) → Begins front more → Begins (first ++ front) (first ++ more)
 begins_behind front first more b = record { rest = b.rest; is = ap (λ xs. first ++ xs) b.is ∙ sym (append_assoc first front b.rest) }
 
--- what stands after the first bytes of a piece were shown
+-- what holds after the first bytes of a piece were shown
 pub record ShownSoFar (old now : Meaning) (bytes : List ℕ) (place : ℕ) : Type 0 where
   pub within : place ≤ length bytes
   pub call : IsShowCall old now
@@ -60,7 +60,7 @@ pub record ShownSoFar (old now : Meaning) (bytes : List ℕ) (place : ℕ) : Typ
   pub shown : now.shown ≡ append_known old.shown (take place bytes)
   pub moments : IsTrue old.is_honest → Adds old now (Since old.shown (λ image front. old.images image × Begins front bytes))
 
--- the moments of a call, after which a front is shown
+-- the moments of a call, after which a prefix is shown
 front_moments : {old now next : Meaning} (bytes : List ℕ) (place : ℕ) → IsTrue old.is_honest
     → Adds old now (Since old.shown (λ image front. old.images image × Begins front bytes)) → IsShowCall old next → Elapses now next
     → next.shown ≡ append_known old.shown (take place bytes)
@@ -104,7 +104,7 @@ shown_on a b c (Err e) first more shown next =
           ∙ ap (λ xs. append_known a xs) (sym (take-append-add first more front.count));
     }
 
--- the run failed, so that a longer piece failed too
+-- the run failed, so a longer piece failed too
 pub show_front : {E : Type 0} {a b : Meaning} (first more all : List ℕ) (r q : Result (Unit {0}) E)
     → IsShowRun a b first r → (e : E) → r ≡ Err e → IsErr q → first ++ more ≡ all → IsShowRun a b all q
 show_front first more all (Ok u) q run d bad err is = absurd (cc bad)
@@ -121,7 +121,7 @@ show_front {E} {a} {b} first more all (Err e) (Err f) run d bad err is = subst (
   moments = λ honest. adds_weaken _ (run.moments honest) (λ image bytes since. (since.0, since.1, (since.2.0, begins_more since.0 first more since.2.1)));
 })
 
--- two pieces in a row
+-- two pieces in sequence
 pub show_then : {E : Type 0} {a b c : Meaning} (first more all : List ℕ) (r q : Result (Unit {0}) E)
     → IsShowRun a b first r → (v : Unit {0}) → r ≡ Ok v → IsShowRun b c more q → first ++ more ≡ all → IsShowRun a c all q
 show_then first more all (Err e) q run v good next is = absurd (cc good)

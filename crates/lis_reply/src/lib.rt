@@ -10,7 +10,7 @@ use itoa::Buffer;
 use lis_model::refusal::Refusal;
 use lis_ports::{Failed, Station};
 
-/// Shows the bytes whole. `Failed` comes only where the station counted a fault of showing; a front was shown then.
+/// Shows all of the bytes. It fails with `Failed` only if the station counted a show fault; a prefix was shown then.
 pub fn show_all<T: Station>(station: &mut T, bytes: &[u8]) -> Result<(), Failed>
     ensures { IsShowRun (T.meaning station.old) (T.meaning station.new) bytes.now result }
 {
@@ -26,7 +26,7 @@ pub fn show_all<T: Station>(station: &mut T, bytes: &[u8]) -> Result<(), Failed>
 /// The longest text of a line that is shown in one call.
 const MAX_TEXT: usize = 1_100;
 
-/// The longest front, before the blank, of such a line.
+/// The longest prefix, before the blank, of such a line.
 const MAX_FRONT: usize = 60;
 
 fn line_of(front: &[u8], text: &[u8]) -> ArrayVec<u8, 1168>
@@ -50,7 +50,7 @@ fn show_long<T: Station>(station: &mut T, front: &[u8], text: &[u8]) -> Result<(
     show_all(station, b"\n")
 }
 
-// One call where the line is short enough to be put together first.
+// It makes one call if the line is short enough to be put together first.
 fn show_spaced<T: Station>(station: &mut T, front: &[u8], text: &[u8]) -> Result<(), Failed>
     ensures { IsShowRun (T.meaning station.old) (T.meaning station.new) (line (front.now ++ 32 ∷ text.now)) result }
 {

@@ -1,4 +1,4 @@
--- One item carried out in its room, and the line of the room behind it.
+-- One item run in its room, and the line of the room after it.
 use Rattle.std.proofs.Common.{ℕ, Option, Some, None, List, [], Result, Ok, Err, get_or, set, refl, ap}
 use Rattle.std.specs.Option.{option_map, IfSome}
 use Rattle.lis_ports.specs.Meaning.{Meaning}
@@ -41,7 +41,7 @@ pub refuses : {k : Stored} {old new : Meaning} {result : Result (Unit {0}) End} 
 unfolding step
 refuses places refusal answers = λ state fitting. shows_item (done_in (record { state = state; place = places }) None (Bad refusal)) places fitting answers refl
 
--- ---- the line behind it
+-- ---- the line after it
 module _ (fits_before : State → Type 0) (old : Meaning) (places_before places : Places) (room : Option ℕ) where
   -- the item stopped before
   pub stops_untagged : (fits : State → Type 0) (new : Meaning) (end : End) (asked : Option Item)
@@ -50,7 +50,7 @@ module _ (fits_before : State → Type 0) (old : Meaning) (places_before places 
   stops_untagged fits new end None carries = tt
   stops_untagged fits new end (Some item) carries = λ state fitting. item_front (tag_line room) (carries state fitting) refl
 
-  -- it was carried out
+  -- it was run
   pub carries_tagged : (k : Stored) (mid new : Meaning) (result : Result (Unit {0}) End) (asked : Option Item)
       → IfSome asked (CarriesOut (λ now item. done_in now room item) fits_before places_before old mid (Ok tt) (StoreFits k mid) places) → Answers mid new (tag_line room) result
       → IfSome (option_map (λ item. record { room = room; item = item }) asked) (CarriesOut room_step fits_before places_before old new result (StoreFits k new) places)

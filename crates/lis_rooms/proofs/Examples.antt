@@ -1,4 +1,4 @@
--- Rooms worked by the definitions alone.
+-- Rooms worked out by the definitions alone.
 use Rattle.std.proofs.Common.{◌≡◌, ℕ, Some, None, List, [], ◌∷◌, ◌++◌, codes, refl, lit<}
 use Rattle.std.specs.Fmt.{digits}
 use Rattle.lis_grammar.specs.Machine.{text_steps}
@@ -41,7 +41,8 @@ unfolding all_tagged whole_tagged step digits
 payload_and_bad_lines = refl
 
 -- ---- two lists that look alike to a room
--- In the one a file is made at the place of room 1, in the other at the root by room 2, among questions, refusals and a line without a tag.
+-- In the first list a file is made at the place of room 1, and in the second at the root by room 2, among queries, refusals and a line
+-- without a tag.
 abbrev one : List Tagged
 one = by 0 (Mkdir (codes "a")) ∷ by 1 (Cd (codes "a")) ∷ by 1 (Create (codes "x") []) ∷ by 0 Ls ∷ by 0 (Cat (codes "x")) ∷ []
 
@@ -57,7 +58,7 @@ alike = refl
 hears : HearsTheSame start one other 0
 hears = hears_the_same start one other 0 (lit< tt) alike
 
--- and so it does, worked
+-- and so it does, worked out
 heard_of_one : heard start one 0
     ≡ (line (codes "ok") ++ line (codes "@0")) ∷ (line (codes "f x") ++ line (codes "ok") ++ line (codes "@0"))
     ∷ (line (codes "b 0") ++ line [] ++ line (codes "ok") ++ line (codes "@0")) ∷ []
@@ -68,7 +69,7 @@ heard_of_other : heard start other 0 ≡ heard start one 0
 unfolding step digits resolved text_words text_steps printed is_place
 heard_of_other = refl
 
--- ---- another room's place is not seen, and what is done there later is
+-- ---- another room's place is not seen, but what is done there later is
 in_a_place : heard start (by 0 (Mkdir (codes "a")) ∷ by 1 (Cd (codes "a")) ∷ by 1 (Create (codes "x") []) ∷ by 0 (Create (codes "y") []) ∷ by 0 Ls ∷ []) 0
     ≡ (line (codes "ok") ++ line (codes "@0")) ∷ (line (codes "ok") ++ line (codes "@0"))
     ∷ (line (codes "d a") ++ line (codes "f y") ++ line (codes "ok") ++ line (codes "@0")) ∷ []

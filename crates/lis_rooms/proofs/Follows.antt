@@ -1,4 +1,4 @@
--- What a room hears, and where it comes to, follow from what it sees.
+-- What a room hears, and the situation that it reaches, follow from what it sees.
 use Rattle.std.proofs.Common.{◌≡◌, ℕ, ◌<◌, Bool, true, false, cond, Some, List, [], ◌∷◌, ◌++◌, length, refl, ap, sym, subst, ◌∙◌}
 use Rattle.lis_model.specs.State.{State}
 use Rattle.lis_model.specs.Step.{SituationOf, Situation, step, after_by}
@@ -30,7 +30,7 @@ module _ (now : SituationOf Places) (tagged : Tagged) (items : List Tagged) (roo
   abbrev next : SituationOf Places
   next = (room_step now tagged).next
 
-  -- so much is heard of the first item, and so much is seen of it
+  -- this is heard of the first item, and this is seen of it
   record FollowsOn (said : List (List ℕ)) (sights : List Sight) : Type 0 where
     replies : said ++ heard next items room ≡ heard_by room (at_room now room) (sights ++ seen next items room)
     situation : at_room (after_by room_step next items) room ≡ reached_by (at_room now room) (sights ++ seen next items room)
@@ -47,7 +47,7 @@ module _ (now : SituationOf Places) (tagged : Tagged) (items : List Tagged) (roo
         situation = rest.situation ∙ ap (λ s. reached_by s (seen next items room)) to;
       }
 
-  -- the state after an item of another room is seen, or is the one before it
+  -- the state after an item that is not the room's is seen, or is the one before it
   other_follows : is_of room tagged.room ≡ false → Follows next items room → (same : Bool) → same_state now.state next.state ≡ same
       → FollowsOn [] (cond same [] (Changed next.state ∷ []))
   other_follows other rest true same =

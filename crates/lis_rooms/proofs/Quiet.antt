@@ -38,7 +38,7 @@ quiet_unseen now first others tagged room there other stays =
     ∙ ap (λ s. seen now first room ++ seen s others room) stays
     ∙ sym (seen-append now first others room))
 
--- ---- a room beside others that change no state
+-- ---- a room among others that change no state
 abbrev own_items : ℕ → List Tagged → List Tagged
 own_items room items = filter (λ tagged. is_of room tagged.room) items
 

@@ -29,7 +29,7 @@ own_of : (room : ℕ) (of : Option ℕ) → is_of room of ≡ true → of ≡ So
 own_of room None is = absurd (cc)
 own_of room (Some other) is = ap Some ((Decides-eqb other room).0 is)
 
--- no room comes or goes
+-- the number of rooms stays
 rooms_of_step : (now : SituationOf Places) (of : Option ℕ) (item : Item) → length (done_in now of item).next.place ≡ length now.place
 rooms_of_step now None item = refl
 rooms_of_step now (Some room) item = length-set now.place room (step (at_room now room) item).next.place
@@ -37,7 +37,7 @@ rooms_of_step now (Some room) item = length-set now.place room (step (at_room no
 pub rooms_stay : (now : SituationOf Places) (tagged : Tagged) → length (room_step now tagged).next.place ≡ length now.place
 rooms_stay now tagged = rooms_of_step now tagged.room tagged.item
 
--- the room's own item is carried out at its place
+-- the room's own item is run at its place
 pub own_step : (now : SituationOf Places) (tagged : Tagged) (room : ℕ) → is_of room tagged.room ≡ true
     → room_step now tagged ≡ with_tag (Some room) (done_in now (Some room) tagged.item)
 own_step now tagged room is = ap (λ of. with_tag of (done_in now of tagged.item)) (own_of room tagged.room is)
@@ -49,7 +49,7 @@ own_leads now tagged room is there =
     ap (λ o. at_room o.next room) (own_step now tagged room is)
     ∙ ap (λ (place : List Formula). record { state = after.state; place = place }) (get_or-set_same now.place room after.place [] there)
 
--- an item that is not the room's leaves its place
+-- an item that is not the room's leaves the room's place
 place_of_step : (now : SituationOf Places) (of : Option ℕ) (item : Item) (room : ℕ) → is_of room of ≡ false
     → (at_room (done_in now of item).next room).place ≡ (at_room now room).place
 place_of_step now None item room other = refl

@@ -1,4 +1,4 @@
--- Rooms: sessions over one state, each at a place of its own.
+-- Rooms: sessions over one state, each at its own place.
 use Rattle.std.specs.Prelude.{ℕ, ◌+◌, Option, Some, None, List, [], ◌∷◌, ◌++◌, codes, replicate, slice_index_or, slice_set}
 use Rattle.lis_grammar.specs.Formula.{Formula}
 use Rattle.lis_model.specs.State.{State}
@@ -25,12 +25,12 @@ at_room now room = record { state = now.state; place = slice_index_or now.place 
 abbrev pub at_no_room : SituationOf Places → Situation
 at_no_room now = record { state = now.state; place = [] }
 
--- the line behind a reply: `@` and the digit of its room, or `@-` where it has none
+-- the line after a reply: `@` and the digit of its room, or `@-` if it has none
 abbrev pub tag_line : Option ℕ → List ℕ
 tag_line (Some room) = line (64 ∷ (48 + room) ∷ [])
 tag_line None = line (codes "@-")
 
--- an outcome, with the line of its room behind the reply
+-- an outcome, with the line of its room after the reply
 abbrev pub with_tag : {P : Type 0} → Option ℕ → OutcomeOf P → OutcomeOf P
 with_tag room outcome = record { next = outcome.next; reply = outcome.reply ++ tag_line room }
 
@@ -41,7 +41,7 @@ outcome_in now room outcome = record {
   reply = outcome.reply;
 }
 
--- An item of a room is carried out at its place. One without a room changes nothing: it is a line that is refused.
+-- An item of a room is run at its place. An item without a room changes nothing: it is a refused line.
 abbrev pub done_in : SituationOf Places → Option ℕ → Item → OutcomeOf Places
 done_in now (Some room) item = outcome_in now room (step (at_room now room) item)
 done_in now None item = record { next = now; reply = (step (at_no_room now) item).reply }

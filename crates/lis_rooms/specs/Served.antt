@@ -5,7 +5,7 @@ use Rattle.lis_store.specs.Stored.{Stored}
 use Rattle.lis_session.specs.Session.{CanWork}
 use Rattle.lis_rooms.specs.Rooms.{Places}
 
--- the store and the memory to work in go together, and there are eight rooms
+-- the store fits the working memory, and there are eight rooms
 pub record CanServe (store : Stored) (scratch : Scratch) (places : Places) : Type 0 where
   pub works : CanWork store scratch
   pub eight : length places ≡ 8

@@ -26,7 +26,7 @@ same_state a b =
     same_limits a.limits b.limits && same_words a.declared b.declared && pointwise same_pair a.axioms b.axioms && pointwise same_file a.files b.files
 
 -- ---- what a room sees
--- its own item; or of another room's item that changed the state, the state after it
+-- its own item; or, of another item that changed the state, the state after it
 pub data Sight : Type 0 where
   Own : Item → Sight
   Changed : State → Sight
@@ -35,7 +35,7 @@ abbrev pub is_of : ℕ → Option ℕ → Bool
 is_of room None = false
 is_of room (Some other) = other == room
 
--- of an item that is not its own a room sees nothing where the state stayed
+-- a room sees nothing of an item that is not its own if the state stayed
 abbrev pub change : State → State → List Sight
 change before after = if same_state before after then [] else Changed after ∷ []
 

@@ -1,4 +1,4 @@
-//! Rooms carry out the items of an input, one after another.
+//! Rooms run the items of an input, one after another.
 
 ghost use Rattle.lis_session.specs.Served.{HasDone, HasStopped};
 ghost use Rattle.lis_store.specs.Stored.{IsUsable};

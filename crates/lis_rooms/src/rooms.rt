@@ -24,7 +24,7 @@ use std::marker::Model;
 /// How many rooms there are.
 pub const ROOMS: usize = 8;
 
-/// Rooms: the store that all of them carry out commands on, the place of each, and the memory in which they work, one at a time.
+/// Rooms: the store on which all of them run commands, the place of each, and the memory that commands work in, one at a time.
 #[derive(Drop)]
 pub struct Rooms {
     store: Store,
@@ -69,7 +69,7 @@ fn answer_tag<T: Station>(station: &mut T, room: Option<u8>) -> Result<(), End>
 }
 
 impl Rooms {
-    /// Eight rooms at the root, over the store. No other call of them takes memory.
+    /// Eight rooms at the root, over the store. No other call of them allocates memory.
     pub fn new(alloc: Global, store: Store) -> Result<Rooms, AllocError>
         ensures made { IfOk result (λ rooms. rooms ≡ record { store = store; place = all_at_root }) }
         ensures sound { IsSound store }
@@ -89,7 +89,7 @@ impl Rooms {
         })
     }
 
-    /// Gives back their memory.
+    /// Frees their memory.
     pub fn close(self) {
         self.store.close();
     }
@@ -110,7 +110,7 @@ impl Rooms {
         &self.places[usize::from(room)]
     }
 
-    // Carries out an item in its room, at whose place it is said. One without a room is refused.
+    // Runs an item in its room, at the place of that room. An item without a room is refused.
     fn carry_in<T: Station>(
         &mut self,
         tagged: &Tagged,
@@ -139,7 +139,7 @@ impl Rooms {
         }
     }
 
-    /// Carries out one item, and shows its reply; and then the line of its room, so that this comes behind the change.
+    /// Runs one item, and shows its reply and then the line of its room. So that line comes after the change.
     pub fn step<T: Station>(
         &mut self,
         tagged: &Tagged,

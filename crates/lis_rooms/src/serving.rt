@@ -20,11 +20,11 @@ use lis_line::reader::Payload;
 use lis_ports::{Source, Station};
 use lis_session::end::End;
 
-/// Carries out the items of the input, each in its room, up to the end of the input, its limit or the first fault. It takes at most one
-/// byte past the limit, and no memory: the rooms have it all.
+/// Runs the items of the input, each in its room, up to the end of the input, its limit or the first fault. It takes at most one byte past
+/// the limit, and allocates no memory: the rooms have all of it.
 ///
-/// Stopped at any moment, the image stands for the state after some first items, and what was shown is a front of their replies that
-/// lacks at most the last one. The line of a room is the last of a reply, so that it comes behind the change.
+/// At any moment the image represents the state after some first items, and what was shown is a prefix of their replies that lacks at most
+/// the last one. The line of a room is the last of a reply, so it comes after the change.
 pub fn serve_rooms<S: Source, T: Station>(
     rooms: &mut Rooms,
     payload: &mut Payload,

@@ -1,4 +1,4 @@
--- What is shown of an item whose change is made.
+-- What is shown of an item after its change is made.
 use Rattle.std.proofs.Common.{◌≡◌, ℕ, List, [], Result, Ok, Err, ap, sym, subst}
 use Rattle.lis_ports.specs.Meaning.{Meaning}
 use Rattle.lis_model.specs.State.{State, known}
@@ -24,14 +24,14 @@ words_known {k} state sound fits = sym (known_told k.metadata fits.kept state so
 
 -- ---- changes
 module _ {k : Stored} {old : Meaning} {now : Situation} {outcome : Outcome} (stays : outcome.next.place ≡ now.place) (sound : IsSound k) where
-  -- what a change of the store comes to, before its answer is shown
+  -- what a change of the store gives, before its reply is shown
   pub changed_item : {mid : Meaning} (changed : Result (Unit {0}) ChangeFault) → Changes now outcome k old mid changed → OneItem now (quiet outcome) old mid (kept_up changed) (StoreFits k mid) now.place
   changed_item (Ok u) changes = quiet_done changes.moments changes.past (store_fits_at sound changes.ended.1) (sym stays)
   changed_item {mid} (Err (Refused refusal)) changes =
       quiet_done changes.moments changes.past (store_fits_at sound (subst (λ (o : Outcome). StoreFits k mid o.next.state) (sym changes.ended.0) changes.ended.1)) (sym stays)
   changed_item {mid} (Err Disk) changes = quiet_broke changes.moments changes.past [] (StoreFits k mid) now.place
 
-  -- and when it was
+  -- and after it is shown
   pub change_item : {D : Type 0} {result : Result (Unit {0}) End} (meaning : D → Meaning) (mid new : D) (changed : Result (Unit {0}) ChangeFault) → Changes now outcome k old (meaning mid) changed
       → Concludes meaning mid new changed result → OneItem now outcome old (meaning new) result (StoreFits k (meaning new)) now.place
   change_item {result = result} meaning mid new changed changes ends = by changed changes ends

@@ -42,7 +42,7 @@ size_is {k} {m} {s} name slot size sound fits is_slot told = by (rec_at k.metada
     by (Some rec) is same = is ∙ sym same
 
 -- ---- one block
--- so much of the buffer is the block of the file's bytes
+-- this much of the buffer is the block of the file's bytes
 pub block_is : (bytes buf : List ℕ) (n size count : ℕ) → length bytes ≡ size → count ≡ min (size - 4096 * n) 4096
     → take (length (part (4096 * n) 4096 bytes)) buf ≡ part (4096 * n) 4096 bytes → take count buf ≡ part (4096 * n) 4096 bytes
 block_is bytes buf n size count len is read =
@@ -76,7 +76,7 @@ ShowsOf shown k slot old new result =
     (name : List ℕ) → slot_of k.metadata.catalog name ≡ Some slot
     → Does (λ (now : Situation). only_shows (shown (file_of now.state.files name).bytes) now) (StoreFits k old) [] old new result (StoreFits k new) []
 
--- the first n blocks, and the block behind them
+-- the first n blocks, and the block after them
 abbrev pub first_blocks : ℕ → List ℕ → List ℕ
 first_blocks n bytes = take (4096 * n) bytes
 
@@ -114,7 +114,7 @@ module _ (k : Stored) (slot n : ℕ) {old : Meaning} where
       (shown name is state fitting)
 
 -- ---- a file with its size
--- the size, the bytes, and what stands behind them
+-- the size, the bytes, and what follows them
 parted : (front bytes end : List ℕ) → (front ++ (bytes ++ 10 ∷ [])) ++ end ≡ (front ++ bytes) ++ 10 ∷ end
 parted front bytes end = simp append_assoc
 
@@ -150,7 +150,7 @@ module _ {k : Stored} {old mid : Meaning} {state : State} (bytes : List ℕ) {si
     pub bytes_item : {next new : Meaning} {result : Result (Unit {0}) End} → Shows state bytes mid next (Ok tt) (StoreFits k next) → Answers next new (10 ∷ ok_line) result → ShowsFile k state bytes old new result
     bytes_item {result = result} item last = in_pieces bytes size len (item_shows result (item_then (Ok tt) size_shown item.past item) last)
 
--- ---- where the file is
+-- ---- whether the file is here
 -- a file of which something is shown, by whether the store finds it
 module _ {k : Stored} {old new : Meaning} {result : Result (Unit {0}) End} (now : Situation) (name body : List ℕ) (sound : IsSound k) (fitting : FitsAt (StoreFits k old) old now.state) where
   pub shows_nowhere : is_among k.metadata now.place name ≡ false → Answers old new (refusal_line NoFileHere) result → OneItem now (shown_here now name body) old new result (StoreFits k new) now.place

@@ -1,4 +1,4 @@
--- How much there is, as it is shown.
+-- The counts, as they are shown.
 use Rattle.std.proofs.Common.{◌≡◌, ℕ, List, ◌++◌, length, codes, append_assoc}
 use Rattle.lis_model.specs.Replies.{number_line, ok_line}
 use Rattle.lis_model.specs.State.{State, known}

@@ -36,7 +36,7 @@ use Rattle.lis_store.proofs.StoreSays.{any_is_found, table_told}
 use Rattle.lis_store.proofs.Described.{description_told, entry_found}
 use Rattle.lis_session.specs.Described.{words_had}
 
--- ---- a list from a place on
+-- ---- a list from an index on
 pub split_at : {X : Type 0} (xs : List X) (n : ℕ) → drop n xs ≡ option_to_list (slice_get xs n) ++ drop (n + 1) xs
 split_at xs n = by (slice_get xs n) refl
   where
@@ -55,7 +55,7 @@ module _ (k : Metadata) (slot : ℕ) where
   had_of_both : (xs ys : List Numbered) → flat_map (body_line 112) (words_had k slot (xs ++ ys)) ≡ flat_map (body_line 112) (words_had k slot xs) ++ flat_map (body_line 112) (words_had k slot ys)
   had_of_both xs ys = simp (filter-append, map-append, flat_map-append)
 
-  -- ---- the word of one place
+  -- ---- the word at one index
   abbrev pub text_at : ℕ → List ℕ
   text_at n = flat_map (body_line 112) (words_had k slot (option_to_list (slice_get k.dict.entries n)))
 
@@ -64,7 +64,7 @@ module _ (k : Metadata) (slot : ℕ) where
   number_in n word number at sound =
       omega (arith, number_below k.dict sound.dict word number (number_from_among k.dict sound.dict word number (among_place k.dict.entries n (word, number) at)), sound.numbers, sound.rows)
 
-  -- ---- the words from a place on
+  -- ---- the words from an index on
   abbrev pub text_from : ℕ → List ℕ
   text_from n = flat_map (body_line 112) (words_had k slot (drop n k.dict.entries))
 
@@ -76,7 +76,7 @@ module _ (k : Metadata) (slot : ℕ) where
       ap (λ ws. flat_map (body_line 112) (words_had k slot ws)) (split_at k.dict.entries n)
       ∙ had_of_both (option_to_list (slice_get k.dict.entries n)) (drop (n + 1) k.dict.entries)
 
-  -- ---- the words are those that the numbers of the slot tell
+  -- ---- the words are those that have the numbers of the slot
   module _ (sound : AreSound k) where
     abbrev is_had : Numbered → Bool
     is_had w = has k.ext w.1 slot

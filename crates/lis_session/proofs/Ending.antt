@@ -1,4 +1,4 @@
--- How a session over the items of an input ends, told by its end.
+-- How a session over the items of an input ends, by its end.
 use Rattle.std.proofs.Common.{◌≡◌, ℕ, List, Option, Some}
 use Rattle.lis_ports.specs.Meaning.{Meaning}
 use Rattle.lis_model.specs.State.{State}
@@ -28,7 +28,7 @@ module _ {P I : Type 0} (by : SituationOf P → I → OutcomeOf P) (cut : Cut I)
   served_keeps AtFault ended = ended.done.keeps
   served_keeps (Stopped fault) ended = ended.1.done.keeps
 
-  -- where the input was known
+  -- if the input was known
   module _ (input : List ℕ) (told : left_before ≡ Some input) where
     pub served_input : (halt : Halt End) → Halted halt → InputRead limit input left halt
     served_input AtEnd ended = let read = ended.read input told in (read.short, read.at_end)

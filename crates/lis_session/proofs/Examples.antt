@@ -1,4 +1,4 @@
--- Moments of small sessions, worked by the definitions alone.
+-- Moments of small sessions, worked out by the definitions alone.
 use Rattle.std.proofs.Common.{ℕ, List, [], ◌∷◌, ◌++◌, codes, refl, arith}
 use Rattle.lis_model.specs.declared.command.Command.TheVariants.{Mkdir, Pwd}
 use Rattle.lis_model.specs.Replies.{line}
@@ -15,7 +15,7 @@ start = start_of (record { files = 64; props = 64; blocks = 8; version = 1 })
 abbrev session : List Item
 session = Do (Mkdir (codes "a")) no_payload ∷ Do Pwd no_payload ∷ []
 
--- nothing was shown: the image may stand for the state before the first command
+-- nothing was shown: the image may represent the state before the first command
 before_all : (image : List ℕ) → Stands image (state_after step start session 0) → SessionMoment step start session image []
 unfolding step
 before_all image stands = record {
@@ -26,7 +26,7 @@ before_all image stands = record {
   no_less = record { rest = []; is = refl };
 }
 
--- or for the state after it, whose reply was lost
+-- or the state after it, whose reply was lost
 reply_lost : (image : List ℕ) → Stands image (state_after step start session 1) → SessionMoment step start session image []
 unfolding step
 reply_lost image stands = record {
@@ -48,7 +48,7 @@ one_byte image stands = record {
   no_less = record { rest = codes "o"; is = refl };
 }
 
--- in the midst of the second reply
+-- in the middle of the second reply
 second_reply : (image : List ℕ) → Stands image (state_after step start session 2) → SessionMoment step start session image (line (codes "ok") ++ codes "w ")
 unfolding step printed
 second_reply image stands = record {

@@ -1,4 +1,4 @@
--- A store that fits a station, and what shows leave of it.
+-- A store that fits a station, and what remains after something is shown.
 use Rattle.std.proofs.Common.{sym, ◌∙◌, subst, []}
 use Rattle.lis_ports.specs.Meaning.{Meaning}
 use Rattle.lis_ports.specs.Calls.{IsShowCall}
@@ -16,7 +16,7 @@ store_fits_at {k} {m} {state} sound fits = record {
   own = fits;
 }
 
--- a show
+-- one call that shows
 pub store_shown : {k : Stored} {old new : Meaning} {state : State} → FitsAt (StoreFits k old) old state → IsShowCall old new → FitsAt (StoreFits k new) new state
 store_shown {k} fitting call =
     let same = call.same fitting.honest in

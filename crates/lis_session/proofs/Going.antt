@@ -1,4 +1,4 @@
--- A session on the way: item by item, and where it stops.
+-- A session in progress: item by item, and where it stops.
 use Rattle.std.proofs.Common.{◌≡◌, List, [], ◌∷◌, ◌++◌, Option, Some, None, Result, Ok, Err, MatchResult, IfOk, false, ap, sym, subst, ◌∙◌, refl, inr, arith}
 use Rattle.std.specs.Io.KnownBytes.{append_known}
 use Rattle.std.specs.Option.{IfSome}
@@ -25,7 +25,7 @@ use Rattle.lis_laws.proofs.Regular.{AreRegular, limits_after, last_reply, last_s
 use Rattle.lis_session.proofs.Moments.{moment_in, session_on}
 use Rattle.lis_kept.proofs.Image.{same_blocks}
 
--- ---- whatever is carried out
+-- ---- whatever is run
 cause_then : (a b c : Meaning) (result : Result (Unit {0}) End) → HasEndCause a b (Ok tt) → HasEndCause b c result → HasEndCause a c result
 cause_then a b c (Ok u) first second = (second.0 ∙ first.0, second.1 ∙ first.1)
 cause_then a b c (Err DiskFault) first second = (subst (λ n. Rose n c.disk_faults) first.0 second.0, second.1 ∙ first.1)
@@ -45,7 +45,7 @@ keeps_then first second = record {
   ends = ends_then first.ends second.ends;
 }
 
--- it can carry out the next one
+-- it can run the next item
 pub is_usable_after : {P : Type 0} {now next : SituatedOf P} {mid m : Meaning} (result : Result (Unit {0}) End) → SessionKeeps now mid next m result → IsUsable now.store mid → IfOk result (λ _. IsUsable next.store m)
 is_usable_after (Ok u) keeps usable = record { unbroken = keeps.left.unbroken (λ e. cc e); long = omega (arith, same_blocks keeps.left.image, keeps.ends.same.len, usable.long) }
 is_usable_after (Err fault) keeps usable = tt
@@ -95,7 +95,7 @@ module _ {P I : Type 0} (by : SituationOf P → I → OutcomeOf P) where
   }
 
   module _ (regular : AreRegular by) {start now : SituatedOf P} {entry mid m : Meaning} {first : List I} (next : SituatedOf P) (done : HasDone by start entry first now mid) where
-    -- one item more, however it ended
+    -- one more item, however it ended
     goes_on : (item : I) (result : Result (Unit {0}) End) → SessionKeeps now mid next m result
         → CarriesOut by (StoreFits now.store mid) now.place mid m result (StoreFits next.store m) next.place item → HasGone by start entry (first ++ item ∷ []) next m result
     goes_on item result keeps carries = record {
@@ -113,7 +113,7 @@ module _ {P I : Type 0} (by : SituationOf P → I → OutcomeOf P) where
           };
     }
 
-    -- an item that was asked for
+    -- an item that was requested
     pub has_carried : (asked : Option I) (result : Result (Unit {0}) End) → SessionKeeps now mid next m result
         → IfSome asked (CarriesOut by (StoreFits now.store mid) now.place mid m result (StoreFits next.store m) next.place)
         → IfSome asked (λ item. MatchResult result (λ _. HasDone by start entry (first ++ item ∷ []) next m) (λ fault. HasStopped by start entry first item fault next m))

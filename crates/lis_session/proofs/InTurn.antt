@@ -1,4 +1,4 @@
--- Pieces of a reply that are shown in turn, and lines of a listing.
+-- Pieces of a reply that are shown one after another, and lines of a listing.
 use Rattle.std.proofs.Common.{◌≡◌, ℕ, List, [], ◌∷◌, ◌++◌, map, Result, Ok, Err, refl, ap, sym, ◌∙◌, append_assoc, arith}
 use Rattle.std.specs.List.{flat_map}
 use Rattle.std.specs.Result.{IsErrAnd}
@@ -30,7 +30,7 @@ answers_front first more end front = record {
   fault = front.fault;
 }
 
--- the same of a text that they are, where `?` goes on, and where it passes the fault on
+-- the same for a text that consists of both, if `?` continues, and if it passes the fault on
 pub in_a_row : {a b c : Meaning} {first more all : List ℕ} {u : Unit {0}} {result : Result (Unit {0}) End} → Answers a b first (Ok u) → Answers b c more result → all ≡ first ++ more → Answers a c all result
 in_a_row {first = first} {more} {u = u} {result} front next is = rw is (answers_then first more u result front next)
 
@@ -52,7 +52,7 @@ answers_none m = record {
 }
 
 -- ---- a text in pieces
--- what a loop over pieces keeps: so much was shown, and this is left
+-- what a loop over pieces keeps: this was shown, and this is left
 pub record TextSoFar (all left : List ℕ) (old now : Meaning) : Type 0 where
   pub said : List ℕ
   pub answers : Answers old now said (Ok tt)

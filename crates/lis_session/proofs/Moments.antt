@@ -1,4 +1,4 @@
--- Moments of a session: as it grows by items, and where it stands at a time.
+-- Moments of a session: how they grow with its items, and where the session is at a time.
 use Rattle.std.proofs.Common.{◌≡◌, ℕ, zero, suc, ◌+◌, ◌-◌, ◌≤◌, ◌<◌, List, [], ◌∷◌, ◌++◌, length, take, drop, Option, refl, ap, sym, subst, ◌∙◌, inl, inr, arith, append_assoc, append-nil, length-append}
 use Rattle.std.specs.Io.KnownBytes.{append_known}
 use Rattle.std.proofs.Math.Seq.{take-add, take-append_seam}
@@ -28,7 +28,7 @@ begins_trans a b c ab bc = record { rest = ab.rest ++ bc.rest; is = bc.is ∙ ap
 pub begins_length : (a b : List ℕ) → Begins a b → length a ≤ length b
 begins_length a b ab = omega (arith, ap length ab.is, length-append a ab.rest)
 
--- a front that was shown, as a list
+-- a prefix that was shown, as a list
 pub front_begins : (before now : Option (List ℕ)) (bytes : List ℕ) → AppendsFront before now bytes
     → (shown : List ℕ) × Begins shown bytes × (now ≡ append_known before shown)
 front_begins before now bytes front =
@@ -39,7 +39,7 @@ pub adds_since : {old new : Meaning} (before : Option (List ℕ)) {P Q : List �
     → Adds old new (Since before P) → Adds old new (Since before Q)
 adds_since before weaker adds = adds_weaken _ adds (λ image bytes since. (since.0, since.1, weaker image since.0 since.2))
 
--- the same of moments since a later time, told since the start
+-- the same for moments since a later time, stated since the start
 pub adds_later : {mid new : Meaning} (before : Option (List ℕ)) {P Q : List ℕ → List ℕ → Type 0} (said : List ℕ) → mid.shown ≡ append_known before said
     → ((image shown : List ℕ) → P image shown → Q image (said ++ shown)) → Adds mid new (Since mid.shown P) → Adds mid new (Since before Q)
 adds_later before said told weaker adds = adds_weaken _ adds (λ image bytes since. (
@@ -89,7 +89,7 @@ module _ {P I : Type 0} (by : SituationOf P → I → OutcomeOf P) where
     pub state_whole : (items : List I) → state_after by start items (length items) ≡ (after_by by start items).state
     state_whole items = ap (λ xs. (after_by by start xs).state) (take_whole items)
 
-    -- after some first items, of whose replies all but the last were shown
+    -- after some first items, of whose replies all except the last were shown
     moment_at : (items first others : List I) (image shown : List ℕ) → items ≡ first ++ others → Stands image (after_by by start first).state
         → Begins shown (replies_by by start first) → Begins (out by start first (length first - 1)) shown → SessionMoment by start items image shown
     moment_at items first others image shown all stands no_more no_less =
@@ -103,7 +103,7 @@ module _ {P I : Type 0} (by : SituationOf P → I → OutcomeOf P) where
           no_less = subst (λ xs. Begins (replies_by by start xs) shown) (sym fewer) no_less;
         }
 
-    -- before anything was carried out
+    -- before anything was run
     pub moment_none : (items : List I) (image : List ℕ) → Stands image start.state → SessionMoment by start items image []
     moment_none items image stands = moment_at items [] items image [] refl stands (begins_whole []) (begins_whole [])
 
@@ -138,7 +138,7 @@ module _ {P I : Type 0} (by : SituationOf P → I → OutcomeOf P) where
         (subst (λ xs. Begins (said ++ shown) xs) (sym (last_reply by start first item)) (begins_behind shown said _ front.0))
         (subst (λ xs. Begins (replies_by by start xs) (said ++ shown)) (sym before) (record { rest = shown; is = refl }))
 
-    -- one item more
+    -- one more item
     pub session_on : {old mid new : Meaning} (first : List I) (item : I) → Adds old mid (Since old.shown (SessionMoment by start first)) → mid.shown ≡ append_known old.shown (replies_by by start first)
         → Adds mid new (Since mid.shown (InItem (after_by by start first).state (by (after_by by start first) item)))
         → Adds old new (Since old.shown (SessionMoment by start (first ++ item ∷ [])))

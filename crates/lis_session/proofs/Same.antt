@@ -1,4 +1,4 @@
--- The two forms of a session moment.
+-- The two statements of a session moment.
 use Rattle.std.proofs.Common.{◌≡◌, ◌⊎◌, ℕ, ◌+◌, ◌-◌, ◌≤◌, ◌<◌, List, [], ◌∷◌, ◌++◌, length, refl, ap, subst, ◌∙◌, inl, inr, arith, append-nil, length-append}
 use Rattle.std.proofs.lemmas.Bool.{cases_lt}
 use Rattle.lis_ports.specs.Since.{Begins}
@@ -8,7 +8,7 @@ use Rattle.lis_laws.proofs.Regular.{AreRegular}
 use Rattle.lis_session.proofs.Moments.{begins_whole, begins_trans, begins_length, out_none, out_begins, out_grows}
 
 module _ {P I : Type 0} (by : SituationOf P → I → OutcomeOf P) (regular : AreRegular by) (start : SituationOf P) (items : List I) (image shown : List ℕ) where
-  -- so many replies were shown whole, and no more were
+  -- this many replies were shown whole, and no more
   told : (m : SessionMoment by start items image shown) (whole : ℕ) → Begins (out by start items whole) shown → (m.count ≡ whole) ⊎ ((m.count ≡ whole + 1) × (whole < length items)) → whole ≤ length items
       → ((more : ℕ) → whole < more → more ≤ length items → length shown < length (out by start items more)) → ShownMoment by start items image shown
   told m whole is_shown which within longer = record {

@@ -23,11 +23,11 @@ use Rattle.lis_session.specs.Parts.{only_shows, Answers}
 use Rattle.lis_session.proofs.Fitting.{store_shown}
 use Rattle.lis_session.proofs.Moments.{begins_nothing, front_begins, adds_since, adds_later}
 
--- a piece is shown as an item that changes nothing, wherever
+-- a piece is shown as an item that changes nothing, at any place
 abbrev pub Shows : State → List ℕ → Meaning → Meaning → Result (Unit {0}) End → (State → Type 0) → Type 0
 Shows state piece old new result fits = OneItem (root_of state) (only_shows piece (root_of state)) old new result fits []
 
--- the blocks past an image stay where nothing is written
+-- the blocks past an image stay if nothing is written
 pub unchanged_past : {old new : Meaning} → IsUnchanged old new → (blocks : ℕ) → KeepsPast blocks old new
 unchanged_past same blocks = λ n le. ap (λ xs. block n xs) same.bytes
 
@@ -47,7 +47,7 @@ replied_then {old = old} said {more} first second = record {
 module _ {P : Type 0} {before next : SituationOf P} where
   -- ---- nothing is shown
   module _ {old new : Meaning} (leaves : Leaves old new (λ image. Stands image before.state ⊎ Stands image next.state)) (past : KeepsPast (image_blocks before.state.limits) old new) where
-    -- there was a fault of the disk
+    -- there was a disk fault
     pub quiet_broke : (reply : List ℕ) (fits : State → Type 0) (place : P) → OneItem before (record { next = next; reply = reply }) old new (Err DiskFault) fits place
     quiet_broke reply fits place = record {
       moments = adds_weaken _ leaves.adds (λ image bytes had. ([], append_known-nil old.shown ∙ had.1, by image had.0));
@@ -125,7 +125,7 @@ shows_item {P} {k} {old} {new} {now} {reply} {result} outcome place fitting answ
 pub shows_bytes : {k : Stored} {old new : Meaning} {state : State} {piece : List ℕ} {result : Result (Unit {0}) End} → FitsAt (StoreFits k old) old state → Answers old new piece result → Shows state piece old new result (StoreFits k new)
 shows_bytes {state = state} {piece} fitting answers = shows_item (only_shows piece (root_of state)) [] fitting answers refl
 
--- a piece more is shown
+-- one more piece is shown
 pub item_shows : {P : Type 0} {k : Stored} {before next : SituationOf P} {old mid new : Meaning} {place : P} {said piece : List ℕ} (result : Result (Unit {0}) End)
     → OneItem before (record { next = next; reply = said }) old mid (Ok tt) (StoreFits k mid) place → Answers mid new piece result
     → OneItem before (record { next = next; reply = said ++ piece }) old new result (StoreFits k new) place

@@ -1,4 +1,4 @@
--- How a session over the items of an input ends, told of its whole script.
+-- How a session over the items of an input ends, stated of its whole script.
 use Rattle.std.proofs.Common.{◌≡◌, ℕ, ◌≤◌, ◌<◌, List, [], ◌∷◌, ◌++◌, length, Option, Some, sym, subst, ◌∙◌, append-nil}
 use Rattle.std.specs.Io.KnownBytes.{Consumes, IsAtEnd}
 use Rattle.lis_ports.specs.Meaning.{Meaning}
@@ -16,7 +16,7 @@ use Rattle.lis_session.specs.Served.{HasDone, HasStopped, situation_at}
 use Rattle.lis_session.proofs.Moments.{adds_since, moment_more}
 
 module _ {P I : Type 0} (by : SituationOf P → I → OutcomeOf P) where
-  -- some first items, told of all
+  -- some first items, stated of all
   serves_more : {start : SituationOf P} {first items : List I} {old new : Meaning} {end ended : Type 0} (others : List I) → items ≡ first ++ others → Serves by start first old new end → ended
       → Serves by start items old new ended
   serves_more {start} {first} {old = old} {new} {ended = ended} others all served is = subst (λ xs. Serves by start xs old new ended) (sym all) (record {
@@ -58,7 +58,7 @@ module _ {P I : Type 0} (by : SituationOf P → I → OutcomeOf P) where
       serves_whole taken consumed within is others all =
           serves_more others all (done.serves state fitting) (record { taken = taken; consumed = consumed; within = within; carried = carried is })
 
-      -- where the whole script was carried out, the store fits at the state that it led to, and the session stands at its place
+      -- if the whole script was run, the store fits the state that it led to, and the session is at its place
       pub reached : (script_by cut input limit) ≡ first → StoreFits now.store m (after_by by (situation_at start state) (script_by cut input limit)).state × (now.place ≡ (after_by by (situation_at start state) (script_by cut input limit)).place)
       reached is =
           let there = (done.serves state fitting).ended in

@@ -1,4 +1,4 @@
--- Texts that are shown in turn, and what a loop keeps that shows one.
+-- Texts that are shown one after another, and what a loop keeps that shows one.
 use Rattle.std.proofs.Common.{◌≡◌, ℕ, ◌+◌, ◌≤◌, List, [], ◌++◌, length, drop, slice_get, option_to_list, Result, Ok, Err, refl, sym, ap, subst, ◌∙◌, append_assoc, arith}
 use Rattle.std.specs.List.{flat_map}
 use Rattle.std.proofs.lemmas.Grind.{flat_map-append}
@@ -34,7 +34,7 @@ abbrev both : (State → List ℕ) → (State → List ℕ) → State → List �
 both first more state = first state ++ more state
 
 module _ {k : Stored} where
-  -- bytes that are shown without a look at the disk
+  -- bytes that are shown without a disk read
   pub as_shown : {old new : Meaning} {bytes : List ℕ} {result : Result (Unit {0}) End} → Answers old new bytes result → Shows k (λ state. bytes) old new result
   as_shown {bytes = bytes} {result = result} answers = record {
     shows = λ state fitting. shows_item (only_shows bytes (root_of state)) [] fitting answers refl;
@@ -42,7 +42,7 @@ module _ {k : Stored} where
     disk = shows_stay answers.run;
   }
 
-  -- another text, of the states that fit
+  -- another text, the same for the states that fit
   pub shown_same : {text : State → List ℕ} {old new : Meaning} {result : Result (Unit {0}) End} (other : State → List ℕ) → ((state : State) → FitsAt (StoreFits k old) old state → text state ≡ other state)
       → Shows k text old new result → Shows k other old new result
   shown_same {old = old} {new = new} {result = result} other same shows = record {
@@ -71,7 +71,7 @@ module _ {k : Stored} where
     shown_front end one = record { shows = λ state fitting. item_front (more state) (one.shows state fitting) refl; ends = one.ends; disk = one.disk }
 
 -- ---- what a loop keeps
--- So much of the text was shown since the start, and this is left.
+-- This much of the text was shown since the start, and this is left.
 pub record ShownSoFar (k : Stored) (all left : State → List ℕ) (old now : Meaning) : Type 0 where
   pub said : State → List ℕ
   pub shows : Shows k said old now (Ok tt)
@@ -100,9 +100,9 @@ module _ {k : Stored} where
   so_far_all {all} so_far none =
       shown_same all (λ state fitting. sym (so_far.is state fitting ∙ ap (λ text. so_far.said state ++ text) (none state fitting) ∙ append-nil (so_far.said state))) so_far.shows
 
--- ---- a list, by places
+-- ---- a list, by indexes
 module _ {X : Type 0} where
-  -- the text of the n-th of a list, if there is one, and of those from the n-th on
+  -- the text of the n-th element of a list, if there is one, and of those from the n-th on
   abbrev pub text_at : (X → List ℕ) → List X → ℕ → List ℕ
   text_at text xs n = flat_map text (option_to_list (slice_get xs n))
 

@@ -1,4 +1,4 @@
--- The place of a session stays, but where a command leads to another one.
+-- The place of a session stays, unless a command leads to another one.
 use Rattle.std.proofs.Common.{◌≡◌, ℕ, Bool, true, false, cond, List, [], ◌∷◌, refl}
 use Rattle.std.specs.List.{flat_map}
 use Rattle.lis_model.specs.declared.refusal.Refusal.{Refusal}

@@ -40,7 +40,7 @@ use Rattle.lis_session.proofs.Saying.{quiet_done}
 abbrev pub tally_with : Bool → ℕ → Tally
 tally_with refused listed = record { refused = refused; listed = listed }
 
--- what a change of the store comes to
+-- what a change of the store gives
 module _ {k : Stored} {old new : Meaning} {now : Situation} {outcome : Outcome} {lines : ℕ} (stays : outcome.next.place ≡ now.place) (none : lines ≡ 0) (sound : IsSound k) where
   pub tallied_change : {result : Result Tally Failed} (changed : Result (Unit {0}) ChangeFault) → Changes now outcome k old new changed → Concluded changed result
       → Tallied now outcome lines old new result (StoreFits k new) now.place
@@ -49,7 +49,7 @@ module _ {k : Stored} {old new : Meaning} {now : Situation} {outcome : Outcome} 
       rw is (record { made = changed_item stays sound (Err (Refused refusal)) changes; tally = ap₂ (λ (o : Outcome) n. tally_with (is_refusal o.reply) n) (sym changes.ended.0) (sym none) })
   tallied_change (Err Disk) changes is = rw is (record { made = changed_item stays sound (Err Disk) changes; tally = tt })
 
--- an item that changes no state, and asks no disk
+-- an item that changes no state, and makes no disk call
 pub tallied_still : {k : Stored} {m : Meaning} {now : Situation} (outcome : Outcome) (lines : ℕ) (place : List Formula) (reply : List ℕ) (tally : Tally)
     → FitsAt (StoreFits k m) m now.state → outcome ≡ record { next = record { state = now.state; place = place }; reply = reply } → tally ≡ tally_with (is_refusal reply) lines
     → Tallied now outcome lines m m (Ok tally) (StoreFits k m) place
@@ -103,7 +103,7 @@ few_lines v marks others word file kept =
     omega (arith, length-map (filter is_file (drop file v.files)) (λ (f : Placed). f.entry.name), filter_le is_file (drop file v.files), length-drop file v.files) in
     omega (arith, lines_length (words_from v marks word) (names_from v others file), words, files, kept.few_words, kept.few_files)
 
--- ---- told of the disk
+-- ---- as the disk shows it
 -- at each moment of a tally
 pub tallied_leaves : {old new : Meaning} {before : Situation} {outcome : Outcome} {lines : ℕ} {result : Result Tally Failed} {fits : State → Type 0} {place : List Formula} → IsDiskRun old new
     → Tallied before outcome lines old new result fits place → Leaves old new (λ image. Stands image before.state ⊎ Stands image outcome.next.state)

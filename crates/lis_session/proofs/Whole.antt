@@ -1,4 +1,4 @@
--- An opening, and what is done behind it.
+-- An opening, and what is done after it.
 use Rattle.std.proofs.Common.{◌≡◌, ◌⊎◌, ℕ, ◌≤◌, if◌then◌else◌, List, [], length, take, Option, Some, ap, sym, subst, ◌∙◌, inl, inr, arith}
 use Rattle.std.specs.Io.KnownBytes.{append_known, IsAtEnd}
 use Rattle.std.proofs.lemmas.Bool.{le-leb}
@@ -19,7 +19,7 @@ use Rattle.lis_session.proofs.Moments.{moment_none}
 abbrev pub OnlyNow : Meaning → Type 0
 OnlyNow m = (image bytes : List ℕ) → m.moments m.clock image bytes → Now m image bytes
 
--- what is done behind an opening, which left the images of its start or ones with Q, where P holds of these with nothing shown
+-- what is done after an opening that left the images of its start or ones with Q, if P holds of these with nothing shown
 module _ {old mid : Meaning} (P : List ℕ → List ℕ → Type 0) where
   pub opening_moments : {Q : List ℕ → Type 0} → ((image : List ℕ) → Q image → P image []) → Leaves old mid (λ image. old.images image ⊎ Q image) → Adds old mid (OpenedMoment old P)
   opening_moments {Q} quiet opening = adds_weaken _ opening.adds (λ image bytes had. by image bytes had.0 had.1)
@@ -42,7 +42,7 @@ headline {old} P only_now adds = λ image bytes had.
       | inr moment ↦ moment
     ]
 
--- where each image at the start is a moment with nothing shown there is no exception
+-- if each image at the start is a moment with nothing shown, there is no exception
 pub no_exception : {old new : Meaning} (P : List ℕ → List ℕ → Type 0) → ((image : List ℕ) → old.images image → P image []) → OnlyNow old → Adds old new (OpenedMoment old P) → EachMoment old new (Since old.shown P)
 no_exception {old} P quiet only_now adds = λ image bytes had. at image bytes (headline P only_now adds image bytes had)
   where
@@ -54,11 +54,11 @@ module _ {P I : Type 0} (by : SituationOf P → I → OutcomeOf P) {old new : Me
   stands_at_start : ((image : List ℕ) → old.images image → Stands image start.state) → OnlyNow old → Adds old new (OpenedMoment old (SessionMoment by start items)) → FullHeadline by start items old new
   stands_at_start stands = no_exception (SessionMoment by start items) (λ image is. moment_none by start items image (stands image is))
 
-  -- a store that fits there
+  -- if a store fits there
   pub full_headline : Always old (λ image. Stands image start.state) → OnlyNow old → Adds old new (Since old.shown (SessionMoment by start items)) → FullHeadline by start items old new
   full_headline always only_now adds = stands_at_start always.leaves only_now (adds_weaken _ adds (λ image bytes since. inr since))
 
-  -- nothing unsynced there
+  -- if nothing is unsynced there
   pub headline_settled : Stands old.bytes start.state → ((image : List ℕ) → old.images image → image ≡ old.bytes) → OnlyNow old
       → Adds old new (OpenedMoment old (SessionMoment by start items)) → FullHeadline by start items old new
   headline_settled stands settled = stands_at_start (λ image is. subst (λ xs. Stands xs start.state) (sym (settled image is)) stands)

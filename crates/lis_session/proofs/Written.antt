@@ -1,4 +1,4 @@
--- The change of a store for which a command asks.
+-- The change of a store that a command requests.
 use Rattle.std.proofs.Common.{◌≡◌, List, Result, subst}
 use Rattle.lis_ports.specs.Meaning.{Meaning}
 use Rattle.lis_grammar.specs.Formula.{Formula}

@@ -1,4 +1,4 @@
--- How much there is, as it is shown.
+-- The counts, as they are shown.
 use Rattle.std.specs.Prelude.{ℕ, List, ◌++◌, codes}
 use Rattle.lis_model.specs.Replies.{number_line, ok_line}
 use Rattle.lis_store.specs.declared.counting.Counts.{Counts}

@@ -1,4 +1,4 @@
--- What carrying out one item does to an image and to what was shown, at one place or at several.
+-- What running one item does to an image and to what was shown, at one place or at several.
 use Rattle.std.specs.Prelude.{◌≡◌, ◌≢◌, ◌⊎◌, ℕ, List, [], Result, Ok, Err, false, IsTrue}
 use Rattle.std.specs.Io.KnownBytes.{append_known}
 use Rattle.lis_ports.specs.Meaning.{Meaning}
@@ -15,25 +15,25 @@ use Rattle.lis_session.specs.declared.end.End.{End}
 use Rattle.lis_session.specs.declared.end.End.TheVariants.{DiskFault, OutputFault}
 use Rattle.lis_journal.specs.Journal.{shape_of}
 
--- Nothing was shown and the image stands for the state before, or a front of the reply was and it stands for the state after.
+-- Nothing was shown and the image represents the state before, or a prefix of the reply was shown and the image represents the state after.
 abbrev pub InItem : {P : Type 0} → State → OutcomeOf P → List ℕ → List ℕ → Type 0
 InItem before outcome image shown =
     ((shown ≡ []) × Stands image before) ⊎ (Begins shown outcome.reply × Stands image outcome.next.state)
 
--- The station is honest, each image of it stands for the state, and what a value in memory keeps fits it.
+-- The station is honest, each image of it represents the state, and the values in memory fit it.
 pub record FitsAt (fits : State → Type 0) (m : Meaning) (state : State) : Type 0 where
   pub honest : IsTrue m.is_honest
   pub stands : Always m (λ image. Stands image state)
   pub own : fits state
 
--- so much was shown since the start, and the next state and place are reached
+-- this was shown since the start, and the next state and place are reached
 pub record Replied {P : Type 0} (next : SituationOf P) (old new : Meaning) (fits : State → Type 0) (place : P) (reply : List ℕ) : Type 0 where
   pub shown : new.shown ≡ append_known old.shown reply
   pub fitting : FitsAt fits new next.state
   pub at : place ≡ next.place
 
--- At Ok the reply was shown whole, and after a fault of showing a front of it; the step was made. After a fault of the disk the moments
--- tell what stands.
+-- At Ok the whole reply was shown, and after a show fault a prefix of it; the step was made. After a disk fault only the moments say what
+-- is on the disk.
 abbrev pub ItemEnded : {P : Type 0} → OutcomeOf P → Meaning → Meaning → (State → Type 0) → P → Result (Unit {0}) End → Type 0
 ItemEnded outcome old new fits place (Ok done) = Replied outcome.next old new fits place outcome.reply
 ItemEnded outcome old new fits place (Err DiskFault) = Unit {0}
@@ -45,29 +45,29 @@ pub record OneItem {P : Type 0} (before : SituationOf P) (outcome : OutcomeOf P)
   pub past : KeepsPast (image_blocks before.state.limits) old new
   pub ended : ItemEnded outcome old new fits place result
 
--- What a command comes to is carried out at a place, whichever state fits; the values in memory fit it as `fits_before` and `fits` say.
+-- A command with this outcome is run at a place, whichever state fits; the values in memory fit it as `fits_before` and `fits` say.
 abbrev pub Does : {P : Type 0} → (SituationOf P → OutcomeOf P) → (State → Type 0) → P → Meaning → Meaning → Result (Unit {0}) End → (State → Type 0) → P → Type 0
 Does outcome fits_before place_before old new result fits place =
     (state : State) → FitsAt fits_before old state
     → OneItem (record { state = state; place = place_before }) (outcome (record { state = state; place = place_before })) old new result fits place
 
--- the same of an item, where `by` tells what each item does
+-- the same for an item, if `by` says what each item does
 abbrev pub CarriesOut : {P I : Type 0} → (SituationOf P → I → OutcomeOf P) → (State → Type 0) → P → Meaning → Meaning → Result (Unit {0}) End → (State → Type 0) → P → I → Type 0
 CarriesOut by fits_before place_before old new result fits place item = Does (λ now. by now item) fits_before place_before old new result fits place
 
--- a fault comes only where its count rose; the other count stays
+-- the result is a fault only if its count rose; the other count stays
 abbrev pub HasEndCause : Meaning → Meaning → Result (Unit {0}) End → Type 0
 HasEndCause old new (Ok done) = (new.disk_faults ≡ old.disk_faults) × (new.show_faults ≡ old.show_faults)
 HasEndCause old new (Err DiskFault) = Rose old.disk_faults new.disk_faults × (new.show_faults ≡ old.show_faults)
 HasEndCause old new (Err OutputFault) = (new.disk_faults ≡ old.disk_faults) × Rose old.show_faults new.show_faults
 
--- a store is broken by a fault of the disk alone, and its limits and the length of its image stay
+-- only a disk fault breaks a store, and its limits and the length of its image stay
 pub record StoreLeft (old new : Stored) (result : Result (Unit {0}) End) : Type 0 where
   pub limits : new.metadata.limits ≡ old.metadata.limits
   pub image : shape_of new.journal ≡ shape_of old.journal
   pub unbroken : result ≢ Err DiskFault → new.is_broken ≡ false
 
--- what no call changes of a station: whether it is honest, how long its disk is, and whether it tells its moments
+-- what no call changes of a station: whether it is honest, how long its disk is, and whether it records its moments
 pub record IsSameStation (old new : Meaning) : Type 0 where
   pub honest : new.is_honest ≡ old.is_honest
   pub len : new.len ≡ old.len

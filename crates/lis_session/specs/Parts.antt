@@ -1,4 +1,4 @@
--- How the parts of carrying out an item end.
+-- How the parts of running an item end.
 use Rattle.std.specs.Prelude.{◌≡◌, ℕ, Bool, true, false, if◌then◌else◌, List, Result, Ok, Err, IfErr}
 use Rattle.std.specs.List.{list_all}
 use Rattle.lis_ports.specs.Meaning.{Meaning}
@@ -35,17 +35,17 @@ pub record Ends (old new : Meaning) (result : Result (Unit {0}) End) : Type 0 wh
   pub first_fault : StationFaultEnds old new
   pub same : IsSameStation old new
 
--- The bytes were shown whole, or a front of them was, which is an output fault.
+-- All of the bytes were shown; or a prefix of them, and that is an output fault.
 pub record Answers (old new : Meaning) (bytes : List ℕ) (result : Result (Unit {0}) End) : Type 0 where
   pub run : IsShowRun old new bytes result
   pub fault : IfErr result (λ end. end ≡ OutputFault)
 
--- what is answered where nothing is shown but `ok` or a refusal
+-- the reply if nothing is shown but `ok` or a refusal
 abbrev pub answer_of : Result (Unit {0}) Refusal → List ℕ
 answer_of (Ok done) = ok_line
 answer_of (Err refusal) = refusal_line refusal
 
--- What a change of the store is answered. After a fault of the disk nothing is shown.
+-- The reply to a change of the store. After a disk fault nothing is shown.
 abbrev pub Concludes : {D : Type 0} → (D → Meaning) → D → D → Result (Unit {0}) ChangeFault → Result (Unit {0}) End → Type 0
 Concludes meaning old new (Ok done) result = Answers (meaning old) (meaning new) ok_line result
 Concludes meaning old new (Err (Refused refusal)) result = Answers (meaning old) (meaning new) (refusal_line refusal) result
@@ -62,25 +62,25 @@ led_to known text Unreadable = Err BadFormula
 led_to known text BeyondLimits = Err LargeFormula
 led_to known text (NewPlace place) = if list_all (has_word known) (text_words text) then Ok place else Err UnknownProperty
 
--- The store is changed as a command asks at a place, whichever state fits it.
+-- The store is changed as a command requests at a place, whichever state fits it.
 abbrev pub Makes : (Situation → Outcome) → List Formula → Stored → Stored → Meaning → Meaning → Result (Unit {0}) ChangeFault → Type 0
 Makes outcome place old new before after changed =
     (state : State) → StoreFits old before state
     → Changes (record { state = state; place = place }) (outcome (record { state = state; place = place })) new before after changed
 
--- The same where the change is held back, whichever states are the base and the present one.
+-- The same for a change that is held back, whichever states are the base and the present one.
 abbrev pub MakesHeld : (Situation → Outcome) → List Formula → Stored → Stored → Meaning → Meaning → Result (Unit {0}) ChangeFault → Type 0
 MakesHeld outcome place old new before after changed =
     (base state : State) → StoreHolds old before base state
     → Holds base (record { state = state; place = place }) (outcome (record { state = state; place = place })) new before after changed
 
--- Whether the store did its part: a refusal is an answer.
+-- Whether the store did its part: a refusal is a reply, and no fault.
 abbrev pub kept_up : Result (Unit {0}) ChangeFault → Result (Unit {0}) End
 kept_up (Ok done) = Ok tt
 kept_up (Err (Refused refusal)) = Ok tt
 kept_up (Err DiskChange) = Err DiskFault
 
--- whether a command asks for a change of the store
+-- whether a command requests a change of the store
 abbrev pub is_change : Command → Bool
 is_change (Mkdir word) = true
 is_change (Rmdir word) = true

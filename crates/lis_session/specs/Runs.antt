@@ -1,4 +1,4 @@
--- How a session over an image ends, where `by` tells what each item does and `cut` which items an input has.
+-- How a session over an image ends, if `by` says what each item does and `cut` which items an input has.
 use Rattle.std.specs.Prelude.{◌≡◌, ℕ, ◌≤◌, ◌<◌, List, length, Option, Some}
 use Rattle.std.specs.Io.KnownBytes.{append_known, Consumes, IsAtEnd}
 use Rattle.lis_ports.specs.Meaning.{Meaning}
@@ -14,7 +14,7 @@ use Rattle.lis_session.specs.declared.end.End.{End}
 use Rattle.lis_session.specs.declared.end.End.TheVariants.{DiskFault, OutputFault}
 use Rattle.lis_session.specs.Session.{SessionMoment, OpenedMoment}
 
--- What is done on an image of these limits: P of its moments, that the blocks past the image stay, and how it ended.
+-- What is done on an image of these limits: P holds at its moments, the blocks past the image stay, and `end` says how it ended.
 pub record Goes (P : List ℕ → List ℕ → Type 0) (limits : Limits) (old new : Meaning) (end : Type 0) : Type 0 where
   pub moments : Adds old new (Since old.shown P)
   pub past : KeepsPast (image_blocks limits) old new
@@ -30,18 +30,18 @@ module _ {P I : Type 0} (by : SituationOf P → I → OutcomeOf P) where
   abbrev pub Serves : SituationOf P → List I → Meaning → Meaning → Type 0 → Type 0
   Serves start items old new end = Goes (SessionMoment by start items) start.state.limits old new end
 
-  -- These items were carried out, and their replies were shown, whole. `before` is what had been shown at the start.
+  -- These items were run, and their whole replies were shown. `before` is what had been shown at the start.
   pub record Carried (start : SituationOf P) (items : List I) (before : Option (List ℕ)) (new : Meaning) : Type 0 where
     pub shown : new.shown ≡ append_known before (replies_by by start items)
     pub stands : Always new (λ image. Stands image (after_by by start items).state)
 
-  -- at a fault of showing: what was shown, with the bytes as they read and with each image, is a moment of the session
+  -- at a show fault: what was shown, with the bytes as they read and with each image, is a moment of the session
   pub record StopsAt (start : SituationOf P) (items : List I) (before : Option (List ℕ)) (new : Meaning) : Type 0 where
     pub bytes : List ℕ
     pub shown : new.shown ≡ append_known before bytes
     pub moment : Always new (λ image. SessionMoment by start items image bytes)
 
-  -- at a fault in an item; after one of the disk the moments tell what stands
+  -- at a fault in an item; after a disk fault only the moments say what is on the disk
   abbrev pub StoppedAt : SituationOf P → List I → Option (List ℕ) → Meaning → End → Type 0
   StoppedAt start items before new DiskFault = Unit {0}
   StoppedAt start items before new OutputFault = StopsAt start items before new
@@ -58,7 +58,7 @@ module _ {P I : Type 0} (by : SituationOf P → I → OutcomeOf P) where
       pub long : limit < length bytes
       pub carried : Carried start (script_by cut bytes limit) before new
 
-    -- at a fault of the input: the items that are whole in the bytes taken, none of which lies past the limit
+    -- at a fault of the input: the items that are whole in the bytes taken, none of which is past the limit
     pub record CarriedWhole (left before : Option (List ℕ)) (new : Meaning) : Type 0 where
       pub taken : List ℕ
       pub consumed : Consumes (Some bytes) left taken

@@ -15,8 +15,8 @@ pub record DiskStays (old new : Meaning) : Type 0 where
   pub same : IsUnchanged old new
   pub moments : Adds old new (λ image bytes. old.images image)
 
--- A text of the state is shown, as an item is carried out that changes nothing, whichever state fits; how that ends of any station; and that
--- an honest disk is only read.
+-- A text of the state is shown, as in running an item that changes nothing, whichever state fits; how that ends on any station; and an
+-- honest disk is only read.
 pub record Shows (k : Stored) (text : State → List ℕ) (old new : Meaning) (result : Result (Unit {0}) End) : Type 0 where
   pub shows : Does {P = List Formula} (λ now. only_shows (text now.state) now) (StoreFits k old) [] old new result (StoreFits k new) []
   pub ends : Ends old new result

@@ -1,4 +1,4 @@
-//! A session carries out the items of an input, one after another.
+//! A session runs the items of an input, one after another.
 
 ghost use Rattle.lis_model.specs.Step.{step};
 ghost use Rattle.lis_session.specs.Served.{HasDone, HasStopped};

@@ -10,7 +10,7 @@ use lis_model::command::Command;
 use lis_store::laws::create_is_add;
 use lis_store::{NewFile, Write};
 
-/// Whether a command asks for a change of the store.
+/// Whether a command requests a change of the store.
 pub fn is_change(command: &Command) -> bool
     ensures { result ≡ is_change command.now }
 {
@@ -23,7 +23,7 @@ pub fn is_change(command: &Command) -> bool
     }
 }
 
-/// The change for which a command asks.
+/// The change that a command requests.
 pub(crate) fn write_of<'a>(command: &'a Command, payload: &'a Payload) -> Write<'a>
     requires change { is_change command.now ≡ true }
     ensures written { (now : Situation) → written now result ≡ done now command.now payload.now }

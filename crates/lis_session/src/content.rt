@@ -23,7 +23,7 @@ use lis_ports::{Failed, Station};
 use lis_store::Store;
 use lis_words::Name;
 
-// Shows the n-th block of the file in the slot, by its index block. The buffer has the length of a block.
+// Shows the n-th block of the file in the slot, by its index block. The buffer is as long as a block.
 fn show_block<T: Station>(
     store: &Store,
     slot: u16,
@@ -106,7 +106,7 @@ pub fn show_content<T: Station>(
     show_blocks(store, slot, size, &index, station)
 }
 
-// Shows the file in the slot: its size, its bytes, and a line feed behind them.
+// Shows the file in the slot: its size, its bytes, and a line feed after them.
 fn show_file<T: Station>(store: &Store, slot: u16, station: &mut T) -> Result<(), End>
     requires sound { IsSound store.now }
     requires slot { (name : List ℕ) × (slot_of store.now.metadata.catalog name ≡ Some slot) }
@@ -122,7 +122,7 @@ fn show_file<T: Station>(store: &Store, slot: u16, station: &mut T) -> Result<()
     answer_bytes(station, b"\nok\n")
 }
 
-/// Shows the file of that name: its size, its bytes, and a line feed behind them.
+/// Shows the file of that name: its size, its bytes, and a line feed after them.
 pub fn cat<T: Station>(
     store: &Store,
     scratch: &mut Scratch,

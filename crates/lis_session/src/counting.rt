@@ -1,4 +1,4 @@
-//! Showing how much there is.
+//! Showing the counts.
 
 ghost use Rattle.std.specs.Prelude.{List};
 ghost use Rattle.lis_grammar.specs.Formula.{Formula};

@@ -1,17 +1,17 @@
-//! Why an item could not be carried out, or its reply not be shown.
+//! Why an item could not be run, or its reply could not be shown.
 
 use lis_ports::Failed;
 
-/// Why carrying out an item stopped.
+/// Why running an item stopped.
 #[derive(Clone, Copy, Debug, PartialEq, Eq)]
 pub enum End {
-    /// The disk counted a fault. What stands then is told by the moments.
+    /// The disk counted a fault. Only the moments say what is on it then.
     DiskFault,
-    /// The station counted a fault of showing. The step was made; a front of the reply was shown.
+    /// The station counted a show fault. The step was made, and a prefix of the reply was shown.
     OutputFault,
 }
 
-// A call that shows.
+// For a call that shows.
 impl From<Failed> for End {
     ghost use Rattle.std.specs.Prelude.{◌≡◌};
     ghost use Rattle.lis_session.specs.declared.end.End.TheVariants.{OutputFault};

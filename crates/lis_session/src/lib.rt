@@ -1,4 +1,4 @@
-//! A session over an image: carries out one item after another, and says what a stop at any moment may leave.
+//! A session over an image: it runs one item after another, and clauses say what a stop at any moment may leave.
 #![tactic(auto)]
 
 ghost use Rattle.lis_session.specs.Session.{OneForm};
@@ -16,8 +16,8 @@ mod route;
 pub mod session;
 pub mod tally;
 
-/// A moment of a session told by how many items were carried out, and told by the replies that were shown whole: the two say
-/// the same.
+/// A moment of a session can be stated by how many items were run, or by the replies that were shown whole. The two statements are the
+/// same.
 pub fn one_form()
     ensures { OneForm }
 {}

@@ -18,7 +18,7 @@ use lis_model::refusal::Refusal;
 use lis_place::{Node, Place, Text};
 use lis_store::Store;
 
-// Whether the word of the node is known, where it has one.
+// Whether the word of the node, if it has one, is known.
 fn is_known(store: &Store, node: &Node) -> bool
     ensures { result ≡ list_all (has_word (words store.now.metadata.dict)) (node_words node.now) }
 {
@@ -35,7 +35,7 @@ fn are_known(store: &Store, nodes: &[Node]) -> bool
     nodes.iter().all(|node| is_known(store, node))
 }
 
-// Whether each word that the text names is known, where the text leads from some place to another. The text `..` names none.
+// Whether each word in the text is known, if the text leads from some place to another. The text `..` has no words.
 fn knows_text(store: &Store, text: &[u8]) -> bool
     ensures { (place new : List Formula) → resolved place text.now ≡ NewPlace new
         → result ≡ list_all (has_word (words store.now.metadata.dict)) (text_words text.now) }

@@ -1,4 +1,4 @@
-//! What commands are answered.
+//! The replies to commands.
 
 ghost use Rattle.std.specs.Prelude.{◌++◌, codes};
 ghost use Rattle.lis_grammar.specs.Printing.{printed};
@@ -37,7 +37,7 @@ pub fn answer_size<T: Station>(station: &mut T, size: u32) -> Result<(), End>
     Ok(())
 }
 
-/// Shows how many there are of what the label names.
+/// Shows how many things there are of the kind that the label names.
 pub fn answer_count<T: Station>(station: &mut T, label: &[u8], count: u32) -> Result<(), End>
     ensures { Answers (T.meaning station.old) (T.meaning station.new) (number_line label.now count) result }
 {
@@ -79,7 +79,7 @@ pub fn answer_place<T: Station>(station: &mut T, place: &Place) -> Result<(), En
     answer_ok(station)
 }
 
-/// Shows what a change of the store comes to.
+/// Shows the reply to a change of the store.
 pub fn conclude<T: Station>(station: &mut T, changed: Result<(), ChangeFault>) -> Result<(), End>
     ensures { Concludes T.meaning station.old station.new changed result }
 {

@@ -1,4 +1,4 @@
-//! Showing the way to a file.
+//! Showing the route to a file.
 
 ghost use Rattle.std.specs.Prelude.{◌++◌};
 ghost use Rattle.std.specs.List.{flat_map};

@@ -34,7 +34,7 @@ use lis_store::{ChangeFault, Store};
 use std::alloc::{AllocError, Global};
 use std::marker::Model;
 
-/// A session: the store that it carries out commands on, the place at which they are said, and the memory in which they work.
+/// A session: the store on which it runs commands, the place of the next command, and the memory that commands work in.
 #[derive(Drop)]
 pub struct Session {
     store: Store,
@@ -56,7 +56,7 @@ impl Model for Session {
 }
 
 impl Session {
-    /// A session at the root, over the store. No other call of it takes memory.
+    /// A session at the root, over the store. No other call of it allocates memory.
     pub fn new(alloc: Global, store: Store) -> Result<Session, AllocError>
         ensures made { IfOk result (λ session. session ≡ record { store = store; place = [] }) }
         ensures sound { IsSound store }
@@ -74,12 +74,12 @@ impl Session {
         }
     }
 
-    /// Gives back its memory.
+    /// Frees its memory.
     pub fn close(self) {
         self.store.close();
     }
 
-    /// The place at which the next command is said.
+    /// The place of the next command.
     pub fn place(&self) -> &Place
         ensures { result.now ≡ self.now.place }
     {
@@ -95,7 +95,7 @@ impl Session {
     }
 }
 
-// Carries out a command.
+// Runs a command.
 fn carry_command<T: Station>(
     store: &mut Store,
     scratch: &mut Scratch,
@@ -139,7 +139,7 @@ fn carry_command<T: Station>(
     }
 }
 
-/// Carries out one item on a store, at a place, and shows its reply.
+/// Runs one item on a store, at a place, and shows its reply.
 pub fn carry_out<T: Station>(
     store: &mut Store,
     scratch: &mut Scratch,
@@ -169,7 +169,7 @@ pub fn carry_out<T: Station>(
 }
 
 impl Session {
-    /// Carries out one item, and shows its reply.
+    /// Runs one item, and shows its reply.
     pub fn step<T: Station>(
         &mut self,
         item: &Item,
@@ -194,7 +194,7 @@ impl Session {
         )
     }
 
-    /// Carries out one item. Its reply is tallied, and not shown.
+    /// Runs one item. Its reply is tallied, and not shown.
     pub fn tally<D: Disk>(
         &mut self,
         item: &Item,
@@ -231,7 +231,7 @@ impl Session {
 }
 
 impl Session {
-    /// Makes the change for which a command asks, and holds it back: it is in memory, and is committed with later ones. Nothing is shown.
+    /// Makes the change that a command requests, and holds it back: it is in memory, and is committed with later ones. Nothing is shown.
     pub fn hold<D: Disk>(
         &mut self,
         command: &Command,

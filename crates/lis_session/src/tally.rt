@@ -1,4 +1,4 @@
-//! Carrying out a command without showing its reply.
+//! Running a command without showing its reply.
 
 ghost use Rattle.std.specs.Prelude.{◌≡◌, ◌+◌, ◌≤◌, ◌<◌, ◌^◌, length, false, not, IfOk};
 ghost use Rattle.lis_ports.specs.Calls.{UsesDisk};
@@ -28,7 +28,7 @@ use lis_words::Name;
 pub struct Tally {
     /// Whether it is a refusal.
     pub refused: bool,
-    /// How many words and files it lists, where it is the reply to `ls`.
+    /// How many words and files it lists, if it is the reply to `ls`.
     pub listed: u64,
 }
 
@@ -39,7 +39,7 @@ pub(crate) fn no_listing(refused: bool) -> Tally
     Tally { refused, listed: 0 }
 }
 
-// What a change of the store comes to.
+// The tally of a change of the store.
 fn concluded(changed: Result<(), ChangeFault>) -> Result<Tally, Failed>
     ensures { Concluded changed result }
 {
@@ -74,7 +74,7 @@ fn count_listing(store: &Store, scratch: &mut Scratch, place: &Place) -> u64
     count_lines(lines(store, scratch))
 }
 
-// Whether there is the file of which something is to be shown.
+// Whether there is the file of which something would be shown.
 fn look(store: &Store, scratch: &mut Scratch, place: &Place, name: &Name) -> Tally
     requires { HasRoom scratch.old store.now.metadata.limits }
     ensures room { HasRoom scratch.new store.now.metadata.limits }
@@ -100,7 +100,7 @@ fn list(store: &Store, scratch: &mut Scratch, place: &Place) -> Tally
     }
 }
 
-/// Carries out a command. Its reply is tallied, and not shown.
+/// Runs a command. Its reply is tallied, and not shown.
 pub(crate) fn tally_command<D: Disk>(
     store: &mut Store,
     scratch: &mut Scratch,

@@ -33,7 +33,7 @@ limits_in_range version files props blocks limits versioned e =
     both : {a b c : Bool} → a ≡ true → b ≡ true → c ≡ true → IsTrue (a && b && c)
     both e f g = cc
 
--- ---- what is made is in range, and of what is viewed or put back there is a file's name
+-- ---- what is made is in range, and what is viewed or put back has a file name
 abbrev NamesPart : List (List ℕ) → Type 0
 NamesPart words = (3 < length words) × IsTrue (is_file_name (name_in words))
 
@@ -120,7 +120,7 @@ makes_in_range words = by (task_of words) (is_asked words)
     by (Some Upgrade) is = tt
     by (Some (OnImage work)) is = tt
 
--- what is to be viewed or put back has a name and a text
+-- what will be viewed or put back has a name and a text
 pub view_named : (words : List (List ℕ)) → task_of words ≡ Some (OnImage View) → (3 < length words) × IsTrue (is_file_name (name_in words))
 view_named words is = subst (IsAsked words) is (is_asked words)
 

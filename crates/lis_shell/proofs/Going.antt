@@ -1,4 +1,4 @@
--- How a session over a plain state ends, told by its status.
+-- How a session over a plain state ends, by its status.
 use Rattle.std.proofs.Common.{◌≡◌, ℕ, List, ◌∷◌, [], Option, Some, ap, sym, ◌∙◌, append_assoc}
 use Rattle.std.specs.Io.KnownBytes.{append_known}
 use Rattle.lis_ports.specs.Meaning.{Meaning}
@@ -50,7 +50,7 @@ try_cause limit before left start now entry m input_before input AtFault ended c
 try_cause limit before left start now entry m input_before input (Stopped OutputFault) ended cause = (ended.1.done.cause, ended.1.done.call.disk_faults, cause)
 try_cause limit before left start now entry m input_before input (Stopped NoMemory) ended cause = counts_stay entry m input_before input ended.1.done.call.disk_faults cause ended.1.done.cause
 
--- what was shown, where the source had these bytes left
+-- what was shown, if the source had these bytes left at the start
 pub tries : (limit : ℕ) (before left : Option (List ℕ)) (start now : Situation) (entry m : Meaning) (bytes : List ℕ) (halt : Halt PlainEnd)
     → TryEnded limit before left start entry now m halt → before ≡ Some bytes
     → Tries start limit bytes left entry.shown m.shown now (try_status halt)

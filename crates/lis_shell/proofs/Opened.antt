@@ -1,4 +1,4 @@
--- What is kept where an image was opened, and the work behind it ended.
+-- What is kept if an image was opened and the work after it ended.
 use Rattle.std.proofs.Common.{◌≡◌, ◌⊎◌, ℕ, List, [], Option, Some, Result, Ok, Err, IsTrue, false, refl, sym, subst, inr, ◌∙◌}
 use Rattle.lis_ports.specs.Meaning.{Meaning}
 use Rattle.lis_ports.specs.Runs.{Adds, Leaves}
@@ -38,7 +38,7 @@ use Rattle.lis_shell.proofs.Refused.{IsOpening, not_begun, opening_stays}
 abbrev pub IsQuiet : Work → Type 0
 IsQuiet work = (state : State) (bytes image : List ℕ) → Stands image state → work.moment state bytes image []
 
--- what is said of the work on a store
+-- what is stated of the work on a store
 abbrev Does : Work → Stored → Meaning → Meaning → Option (List ℕ) → Option (List ℕ) → Halt End → Type 0
 Does work store mid new left left_after halt =
     (state : State) (bytes : List ℕ) → StoreFits store mid state → Told work.takes_input left bytes
@@ -49,11 +49,11 @@ abbrev Undoes : Work → Stored → Meaning → Meaning → Option (List ℕ) �
 Undoes work store mid new left halt =
     IsTrue (work.undone (Ended halt)) → (state : State) (bytes : List ℕ) → StoreFits store mid state → Told work.takes_input left bytes → Adds mid new (Since mid.shown (NotBegun state))
 
--- of one that writes nothing
+-- of a work that writes nothing
 abbrev Reads : Work → Meaning → Meaning → Halt End → Type 0
 Reads work mid new halt = IsTrue (writes_nothing work (Ended halt)) → IsTrue mid.is_honest → DiskStays mid new
 
--- an image that stands for a state was opened, and the work came to an end
+-- an image that represents a state was opened, and the work came to an end
 pub work_done : {T : Type 0} {old mid new : Meaning} {unmoved untouched unmoved_by : Type 0} {left left_after : Option (List ℕ)} (work : Work) (opened : T) → IsOpening old mid unmoved (Ok opened)
     → (IsTrue old.is_honest → IsLongEnough old × ((s : State) × Stands old.bytes s)) → (halt : Halt End) → work.may_end halt
     → ((bytes : List ℕ) → left ≡ Some bytes → work.input bytes left_after halt)
@@ -78,7 +78,7 @@ work_done work opened opening judged halt only input runs past undone left unwri
   barred = λ honest none. let at = (judged honest).1 in absurd (none at.0 at.1);
 }
 
--- what lies past an image that was opened
+-- what is past an image that was opened
 pub opened_past : {T : Type 0} {old mid : Meaning} {unmoved : Type 0} (opened : T) → IsOpening old mid unmoved (Ok opened) → (state : State) → IsTrue old.is_honest → Stands old.bytes state
     → KeepsPast (image_blocks state.limits) old mid
 opened_past {old = old} opened opening state honest stands = opening.past state.limits honest (has_super old.bytes state stands) (λ is. absurd (cc))
@@ -88,7 +88,7 @@ still_recovered : (old mid new : Meaning) → Recovers old mid → DiskStays mid
 still_recovered old mid new at stays =
     (at.0, at.1, record { reads = stays.same.bytes ∙ at.2.reads; only = λ image there. at.2.only image (stays.same.images.only image there) })
 
--- nothing was written by the opening, nor behind it
+-- neither the opening nor the work after it wrote anything
 written_behind : {old mid new : Meaning} {store : Stored} (status : Status) → OpenUnwritten old mid (Ok store) → DiskStays mid new → NothingWritten old new status
 written_behind {old} {mid} status opening stays =
     let left : Unwritten old mid = opening.left (λ is. absurd (cc)) in
@@ -102,7 +102,7 @@ module _ {old mid : Meaning} {unmoved : Type 0} (work : Work) (quiet : IsQuiet w
     (recovers : IsTrue old.is_honest → Recovers old mid)
     (moments : (state : State) → IsTrue old.is_honest → Stands old.bytes state → Leaves old mid (λ image. old.images image ⊎ Stands image state))
     (unwritten : IsTrue old.is_honest → has_open old.bytes ≡ false → OpenUnwritten old mid (Ok store)) where
-  -- the store fits at the state for which the image stood
+  -- the store fits the state that the image represented
   fits : (state : State) → IsTrue old.is_honest → Stands old.bytes state → StoreFits store mid state
   fits state honest stands = let at = ended honest in subst (StoreFits store mid) (one_state old.bytes at.1.0 state at.1.1 stands) at.1.2
 
@@ -118,7 +118,7 @@ module _ {old mid : Meaning} {unmoved : Type 0} (work : Work) (quiet : IsQuiet w
       (λ nothing honest. still_recovered old mid new (recovers honest) (read nothing (opening.run.honest ∙ honest)))
       (λ nothing honest shut. written_behind (Ended halt) (unwritten honest shut) (read nothing (opening.run.honest ∙ honest)))
 
-  -- there was no memory behind the opening, and nothing was done
+  -- memory ran out after the opening, and nothing was done
   pub word_crowded : {new : Meaning} {untouched unmoved_by : Type 0} {left left_after : Option (List ℕ)} → new ≡ mid → left_after ≡ left → untouched → IsSound store
       → ImageKeeps work untouched unmoved_by left left_after old new (Opening NoMemory)
   word_crowded {new} {untouched} {unmoved_by} {left} {left_after} same kept still sound = subst (λ m. ImageKeeps work untouched unmoved_by left left_after old m (Opening NoMemory)) (sym same) (record {
@@ -150,7 +150,7 @@ halted_cause old new input (Ok done) cause = counts_stay old new input input cau
 halted_cause old new input (Err DiskFailed) cause = (cause.0, refl, cause.1)
 halted_cause old new input (Err OutputFault) cause = (cause.1, cause.0, refl)
 
--- the same of a session of the items of an input
+-- the same for a session of the items of an input
 pub session_cause : (old new : Meaning) (before after : ℕ) (halt : Halt End) → HasEndCause old new (result_of halt) → HasHaltCause before after halt
     → HasStatusCause (counts old before) (counts new after) (Ended halt)
 session_cause old new before after AtEnd cause input = counts_stay old new before after cause.0 input cause.1
@@ -163,7 +163,7 @@ pub by_halted : (P : Result (Unit {0}) End → Type 0) (result : Result (Unit {0
 by_halted P (Ok done) is = is
 by_halted P (Err end) is = is
 
--- Where no call failed a work comes to its end, or to the limit of its input, or there was no memory at the opening.
+-- If no call failed, a work comes to its end, or to the limit of its input, or memory ran out at the opening.
 pub comes_to_end : (work : Work) (state : State) (bytes : List ℕ) (left before : Option (List ℕ)) (new : Meaning) (faults faults_after : Counts) (status : Status)
     → WorkEnded work state bytes left before new status → HasStatusCause faults faults_after status → NoFault faults faults_after
     → ComesToEnd work state bytes left before new status
@@ -176,7 +176,7 @@ comes_to_end work state bytes left before new faults faults_after (Opening NoMem
 comes_to_end work state bytes left before new faults faults_after (Opening DiskFault) ended cause none = absurd (none.disk cause.0)
 comes_to_end work state bytes left before new faults faults_after status ended cause none = absurd ended
 
--- the same where no input is too long
+-- the same if no input is too long
 pub completes : (work : Work) (state : State) (bytes : List ℕ) (left before : Option (List ℕ)) (new : Meaning) (done : Type 0) (status : Status)
     → (work.ended state bytes left before new AtEnd → done) → (work.ended state bytes left before new Limit → ⊥)
     → ComesToEnd work state bytes left before new status → Completes (Told work.takes_input left bytes) done state before new status

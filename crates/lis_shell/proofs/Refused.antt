@@ -1,4 +1,4 @@
--- What is kept where opening refused the image.
+-- What is kept if opening refused the image.
 use Rattle.std.proofs.Common.{◌≡◌, ◌⊎◌, ℕ, ◌<◌, List, length, Option, Result, Err, IsTrue, false, refl, ap, ap₂, inl, arith}
 use Rattle.lis_ports.specs.Meaning.{Meaning}
 use Rattle.lis_ports.specs.Runs.{IsDiskRun, Leaves, Adds}
@@ -23,7 +23,7 @@ use Rattle.lis_shell.specs.declared.status.Status.TheVariants.{Opening}
 use Rattle.lis_shell.specs.Causes.{counts, HasStatusCause, IsDiskFault}
 use Rattle.lis_shell.specs.Image.{Work, Told, Refused, writes_nothing, NotBegun, OnlyOpened, NothingWritten, ImageKeeps}
 
--- What opening an image says at each answer, and an upgrade of one. `unmoved` says that the disk is as it was.
+-- What opening an image guarantees for each result, and an upgrade of an image. `unmoved` says that the disk is as it was.
 pub record IsOpening {T : Type 0} (old new : Meaning) (unmoved : Type 0) (result : Result T OpenFault) : Type 0 where
   pub reads_len : IsTrue old.is_honest → length old.bytes ≡ old.len
   pub run : IsDiskRun old new
@@ -34,7 +34,7 @@ pub record IsOpening {T : Type 0} (old new : Meaning) (unmoved : Type 0) (result
   pub past : (limits : Limits) → IsTrue old.is_honest → HasSuper limits old.bytes
       → (result ≡ Err DiskFault → IsSettledPast (image_blocks limits) old) → KeepsPast (image_blocks limits) old new
 
--- an image that stands for a state is not too short
+-- an image that represents a state is not too short
 not_short : (m : Meaning) (state : State) (len need : ℕ) → length m.bytes ≡ m.len → Stands m.bytes state → len ≡ m.len → len < need → IsNeeded m.bytes need → ⊥
 not_short m state len need reads stands is less needed = omega (arith, reads, is, less, needs_no_more m.bytes state need stands needed)
 
@@ -56,7 +56,7 @@ disk_fault fault is = absurd (cc)
 pub not_begun : {old new : Meaning} (state : State) → Leaves old new (λ image. old.images image ⊎ Stands image state) → Adds old new (OpenedMoment old (NotBegun state))
 not_begun state moments = opening_moments (NotBegun state) (λ image stood. (refl, stood)) moments
 
--- and where no gate is open each is one that a crash could have left before
+-- and if no gate is open, each of them is one that a crash could have left before
 pub opening_stays : {old new : Meaning} {result : Result Stored OpenFault} → OpenUnwritten old new result → Adds old new (λ image bytes. WasLeft old image)
 opening_stays {old} opening = adds_weaken (λ image bytes. WasLeft old image) opening.moments.adds (λ image bytes had. inl had.0)
 
@@ -72,7 +72,7 @@ refused_opened old new DiskFault left = left
 
 module _ {T : Type 0} {old new : Meaning} {unmoved : Type 0} (fault : OpenFault) (opening : IsOpening {T = T} old new unmoved (Err fault))
     (ended : IsTrue old.is_honest → OpenEnded old new (Err fault)) (left : IsTrue old.is_honest → OpenLeft old new (Err fault)) where
-  -- An image that stands for a state is refused for want of memory alone, or because the disk failed.
+  -- An image that represents a state is refused only if memory runs out or the disk fails.
   refused : (told : Type 0) → told → (state : State) → IsTrue old.is_honest → Stands old.bytes state → (fault_is : OpenFault) → fault_is ≡ fault → OpenEnded old new (Err fault_is) → Refused told state old.shown new fault_is
   refused told is_told state honest stands (TooShort len need) is at = absurd (not_short old state len need (opening.reads_len honest) stands at.0 at.1 at.2)
   refused told is_told state honest stands (Damaged spot) is at = absurd (at.1 state stands)

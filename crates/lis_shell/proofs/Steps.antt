@@ -24,7 +24,7 @@ use Rattle.lis_parts.specs.Putting.{view_limit, put_by}
 use Rattle.lis_shell.specs.Steps.{StepEnded, NothingDone, is_unbegun, ToldStepEnded}
 use Rattle.lis_shell.proofs.Opened.{by_halted}
 
--- it was carried out as an item at the root
+-- it was run as an item at the root
 pub step_goes : {old new : Meaning} {fits : State → Type 0} {place : List Formula} (state : State) (outcome : Outcome) (result : Result (Unit {0}) End)
     → OneItem (root_of state) outcome old new result fits place → Goes (InItem state outcome) state.limits old new (ByResult (StepEnded outcome old.shown new) (halted result))
 step_goes {old} {new} {fits} {place} state outcome result one = record {
@@ -42,7 +42,7 @@ begins_none : (shown : List ℕ) → Begins shown [] → shown ≡ []
 begins_none [] front = refl
 begins_none (b ∷ shown) front = absurd (let no : [] ≡ b ∷ (shown ++ front.rest) = front.is in cc)
 
--- nothing was shown, or nothing changed and a front of nothing was shown
+-- nothing was shown, or nothing changed and a prefix of nothing was shown
 still_nothing : (state : State) (image shown : List ℕ) → InItem state (only_shows [] (root_of state)) image shown → NotBegun state image shown
 still_nothing state image shown (inl quiet) = quiet
 still_nothing state image shown (inr front) = (begins_none shown front.0, front.1)
@@ -74,7 +74,7 @@ put_goes state name text bytes left (Stopped OutputFault) read one = record {
   ended = (one.ended.0, one.ended.1, record { shown = one.ended.2.shown; stands = one.ended.2.fitting.stands });
 }
 
--- where it was not read whole, nothing was done at any moment
+-- if it was not read to its end, nothing was done at any moment
 pub put_undone : {old new : Meaning} {fits : State → Type 0} {place : List Formula} (state : State) (name text bytes : List ℕ) (halt : Halt End) → IsTrue (is_unbegun (Ended halt))
     → OneItem (root_of state) (put_by halt (root_of state) name text bytes) old new (result_of halt) fits place → Adds old new (Since old.shown (NotBegun state))
 put_undone state name text bytes AtEnd is one = absurd (cc)

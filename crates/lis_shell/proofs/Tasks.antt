@@ -1,4 +1,4 @@
--- What is kept by each task, and by words that ask for none.
+-- What is kept by each task, and by words that request none.
 use Rattle.std.proofs.Common.{◌≡◌, ℕ, List, Option, Some, None, refl, subst}
 use Rattle.lis_ports.specs.Meaning.{Meaning}
 use Rattle.lis_line.specs.declared.carrier.Halt.{Halt}
@@ -24,7 +24,7 @@ module _ (words : List (List ℕ)) (untouched unmoved : Type 0) (left left_after
   kept_unasked (Some Upgrade) kept is = absurd (not_usage _ _ status kept.0.image.only is)
 
 module _ {words : List (List ℕ)} {task : Option Task} {untouched unmoved : Type 0} {left left_after : Option (List ℕ)} {old new : Meaning} {status : Status} where
-  -- the words are refused only where they ask for nothing
+  -- the words are refused only if they request nothing
   pub unasked : TaskKeeps words task untouched unmoved left left_after old new status → status ≡ Usage → (task ≡ None) × untouched × unmoved
   unasked keeps is = kept_unasked words untouched unmoved left left_after old new status task keeps.kept is
 

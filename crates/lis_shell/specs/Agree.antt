@@ -14,20 +14,20 @@ use Rattle.lis_session.specs.Session.{root_of}
 abbrev pub replies_from_empty : Limits → List ℕ → List ℕ
 replies_from_empty limits bytes = replies (start_of limits) (script bytes (2 ^ 40))
 
--- `try` and `run` showed these bytes, each behind what had been shown before.
+-- `try` and `run` showed these bytes, each after what had been shown before.
 pub record ShowSame (plain plain_after image image_after : Meaning) (bytes : List ℕ) : Type 0 where
   pub by_try : plain_after.shown ≡ append_known plain.shown bytes
   pub by_run : image_after.shown ≡ append_known image.shown bytes
 
 -- ---- over images
--- the replies to all items of an input, from a state and the root, and the state behind them
+-- the replies to all items of an input, from a state and the root, and the state after them
 abbrev pub replies_from : State → List ℕ → List ℕ
 replies_from state bytes = replies_by step (root_of state) (script bytes (2 ^ 40))
 
 abbrev pub state_behind : State → List ℕ → State
 state_behind state bytes = (after_by step (root_of state) (script bytes (2 ^ 40))).state
 
--- `run` and `load` showed these bytes, each behind what had been shown before, and each image that either leaves stands for the state.
+-- `run` and `load` showed these bytes, each after what had been shown before, and each image that either leaves represents the state.
 pub record EndSame (run run_after load load_after : Meaning) (bytes : List ℕ) (state : State) : Type 0 where
   pub by_run : run_after.shown ≡ append_known run.shown bytes
   pub by_load : load_after.shown ≡ append_known load.shown bytes

@@ -1,4 +1,4 @@
--- When each status may come.
+-- When each status is possible.
 use Rattle.std.specs.Prelude.{◌≡◌, ℕ, Bool, true, false, IsTrue}
 use Rattle.lis_ports.specs.Meaning.{Meaning}
 use Rattle.lis_ports.specs.Calls.{Rose}
@@ -20,11 +20,11 @@ pub record Counts : Type 0 where
 abbrev pub counts : Meaning → ℕ → Counts
 counts m input = record { disk = m.disk_faults; input = input; show = m.show_faults }
 
--- the disk failed, in an opening or behind it
+-- the disk failed, in an opening or after it
 abbrev pub DiskRose : Counts → Counts → Type 0
 DiskRose old new = Rose old.disk new.disk × (new.input ≡ old.input) × (new.show ≡ old.show)
 
--- a fault comes only where its count rose, and then the other counts stay; every other status leaves all of them
+-- the status is a fault only if its count rose, and then the other counts stay; every other status leaves all of them
 abbrev pub HasStatusCause : Counts → Counts → Status → Type 0
 HasStatusCause old new (Opening DiskFailed) = DiskRose old new
 HasStatusCause old new (Ended (Stopped DiskFault)) = DiskRose old new
@@ -38,7 +38,7 @@ pub record NoFault (old new : Counts) : Type 0 where
   pub input : Rose old.input new.input → ⊥
   pub show : Rose old.show new.show → ⊥
 
--- a call of the disk failed
+-- a disk call failed
 abbrev pub is_disk_fault : Status → Bool
 is_disk_fault (Opening DiskFailed) = true
 is_disk_fault (Ended (Stopped DiskFault)) = true
@@ -47,7 +47,7 @@ is_disk_fault status = false
 abbrev pub IsDiskFault : Status → Type 0
 IsDiskFault status = IsTrue (is_disk_fault status)
 
--- the words ask for something, and it did not come to its opening, or it ended
+-- the words request something, and its opening failed, or it ended
 abbrev pub ByOpening : (OpenFault → Type 0) → (Halt End → Type 0) → Status → Type 0
 ByOpening opening ended Usage = ⊥
 ByOpening opening ended (Opening fault) = opening fault

@@ -1,4 +1,4 @@
--- What `grow` keeps: the large session that is made of a number.
+-- What `grow` keeps: the large session that is made from a number.
 use Rattle.std.specs.Prelude.{ℕ, List, false, Option}
 use Rattle.lis_ports.specs.Meaning.{Meaning}
 use Rattle.lis_model.specs.State.{State}
@@ -20,7 +20,7 @@ growing n = record {
   ended = λ state bytes left before new. ByResult (GrowEnded (root_of state) (grow_items n) before new);
 }
 
--- The station is honest, and its image stands for the state.
+-- The station is honest, and its image represents the state.
 abbrev pub GrowEntry : Meaning → State → Type 0
 GrowEntry m state = EntryWith m (Unit {0}) state
 
@@ -28,7 +28,7 @@ GrowEntry m state = EntryWith m (Unit {0}) state
 abbrev pub GrowHeadline : State → List Item → Meaning → Meaning → Type 0
 GrowHeadline state items old new = EachMoment old new (OpenedMoment old (GrowMoment (root_of state) items))
 
--- Every item was carried out and the summary was shown. Or there was no memory at the opening: nothing was shown, and the image stands for
--- the same state.
+-- Every item was run and the summary was shown. Or memory ran out at the opening: nothing was shown, and the image represents the same
+-- state.
 abbrev pub IsGrown : State → List Item → Option (List ℕ) → Meaning → Status → Type 0
 IsGrown state items before new status = Completes (Unit {0}) (GrewAll (root_of state) items before new (summary (root_of state) items)) state before new status

@@ -33,16 +33,16 @@ use Rattle.lis_shell.specs.Words.{name_in, text_in}
 -- `try`: what was shown is what the model replies to the items of the input. The bytes of an honest
 -- disk, and what a crash leaves of it, are as before.
 pub record TryKeeps (limits : Limits) (left left_after : Option (List ℕ)) (old new : Meaning) (status : Status) : Type 0 where
-  -- the end or the limit of the input, a fault of input or output, or no memory
+  -- the end or the limit of the input, a fault of input or output, or out of memory
   pub only : IsTryStatus status
   pub disk : IsShowCall old new
-  -- where the source tells its bytes: what was shown, and the state it came to, by the answer
+  -- if the source's bytes are known: what was shown, and the state that was reached, by the status
   pub tries : (bytes : List ℕ) → left ≡ Some bytes
       → (end : Situation) × Tries (start_of limits) (2 ^ 40) bytes left_after old.shown new.shown end status
 
--- `make`: an image of the empty state, where the disk is long enough. With nothing unsynced at entry a crash leaves the image of entry, one of
--- the empty state, or one of no state. The record, the data blocks and what lies past the image stay; where the disk failed, each block of
--- these that a crash at entry left as it read.
+-- `make`: an image of the empty state, if the disk is long enough. If nothing is unsynced at the start, a crash leaves the initial image,
+-- one of the empty state, or one of no state. The records, the data blocks and what is past the image stay. If the disk failed, each block
+-- of these stays that a crash at the start left as it read.
 pub record MakeKeeps (limits : Limits) (unmoved : Type 0) (old new : Meaning) (status : Status) : Type 0 where
   pub made : MadeImage limits old new status
   -- nothing is shown
@@ -56,11 +56,11 @@ pub record MakeKeeps (limits : Limits) (unmoved : Type 0) (old new : Meaning) (s
 abbrev pub RunKeeps : Type 0 → Type 0 → Option (List ℕ) → Option (List ℕ) → Meaning → Meaning → Status → Type 0
 RunKeeps untouched unmoved left left_after old new status = ImageKeeps running untouched unmoved left left_after old new status
 
--- `load`: the same, with many changes to a commit
+-- `load`: the same, with many changes in one commit
 abbrev pub LoadKeeps : Type 0 → Type 0 → Option (List ℕ) → Option (List ℕ) → Meaning → Meaning → Status → Type 0
 LoadKeeps untouched unmoved left left_after old new status = ImageKeeps loading untouched unmoved left left_after old new status
 
--- the work that each task on an image is, where these are the words; what it keeps is `ImageKeeps` of it
+-- the work of each task on an image, if these are the words; what it keeps is `ImageKeeps` of this work
 abbrev pub work_of : List (List ℕ) → ImageTask → Work
 work_of words Run = running
 work_of words Load = loading
@@ -70,16 +70,16 @@ work_of words (Grow n) = growing n
 work_of words View = viewing (name_in words) (text_in words)
 work_of words Put = putting (name_in words) (text_in words)
 
--- the image stands for the state, or for the same in version 2
+-- the image represents the state, or the same state in version 2
 abbrev pub UpgradeMoment : State → List ℕ → Type 0
 UpgradeMoment state image = Stands image state ⊎ Stands image (upgraded state)
 
--- only at its end it is done, and every image stands for the state in version 2
+-- it is done only at its end, and then every image represents the state in version 2
 abbrev pub IsAtEnd : Halt End → Type 0
 IsAtEnd AtEnd = Unit {0}
 IsAtEnd halt = ⊥
 
--- An upgrade shows nothing. Where it is refused, nothing was done; where the disk failed, its gate may be put.
+-- An upgrade shows nothing. If it is refused, nothing was done. If the disk failed, the gate may be put.
 abbrev pub upgrading : Work
 upgrading = record {
   takes_input = false;
@@ -91,17 +91,17 @@ upgrading = record {
   ended = λ state bytes left before new halt. Always new (λ image. Stands image (upgraded state));
 }
 
--- `upgrade`: what it leaves, byte for byte, is what opening leaves, and when it is done its gate put. With nothing unsynced at entry each moment
--- stands for the state, or for the same in version 2.
+-- `upgrade`: what it leaves, byte for byte, is what opening leaves, and, when it is done, with the gate put. If nothing is unsynced at the
+-- start, each moment represents the state, or the same state in version 2.
 pub record UpgradeKeeps (unmoved : Type 0) (old new : Meaning) (status : Status) : Type 0 where
-  -- what each work keeps, of one that takes no input
+  -- what each work keeps, for one that takes no input
   pub image : ImageKeeps upgrading (Unit {0}) unmoved None None old new status
   -- nothing is shown
   pub run : IsDiskRun old new
   pub left : IsTrue old.is_honest → ByOpening (FaultLeft old new) (λ halt. GateLeft old new) status
   pub settled_moments : (state : State) → GrowEntry old state → IsSettled old old.bytes → Leaves old new (UpgradeMoment state)
 
--- what is kept by each task, and by words that ask for none
+-- what is kept by each task, and by words that request none
 abbrev pub KeptBy : List (List ℕ) → Option Task → Type 0 → Type 0 → Option (List ℕ) → Option (List ℕ) → Meaning → Meaning → Status → Type 0
 KeptBy words None untouched unmoved left left_after old new status = (status ≡ Usage) × untouched × unmoved
 KeptBy words (Some (Try limits)) untouched unmoved left left_after old new status = TryKeeps limits left left_after old new status
@@ -110,6 +110,6 @@ KeptBy words (Some (OnImage task)) untouched unmoved left left_after old new sta
     ImageKeeps (work_of words task) untouched unmoved left left_after old new status × ((work_of words task).takes_input ≡ false → untouched)
 KeptBy words (Some Upgrade) untouched unmoved left left_after old new status = UpgradeKeeps unmoved old new status × untouched
 
--- what is kept by the words of the command line, by the task that they ask for
+-- what is kept by the words of the command line, by the task that they request
 pub record TaskKeeps (words : List (List ℕ)) (task : Option Task) (untouched unmoved : Type 0) (left left_after : Option (List ℕ)) (old new : Meaning) (status : Status) : Type 0 where
   pub kept : KeptBy words task untouched unmoved left left_after old new status

@@ -13,8 +13,8 @@ use Rattle.lis_open.specs.Makes.{IsMade}
 use Rattle.lis_shell.specs.declared.status.Status.{Status}
 use Rattle.lis_shell.specs.declared.status.Status.TheVariants.{Opening, Ended}
 
--- It ended: each image stands for the empty state and is as making leaves it, and a crash then leaves the bytes as they read. Or the disk is too
--- short, exactly where it has fewer bytes than the image takes; or it failed.
+-- It ended: each image represents the empty state and is as making leaves it, and a crash then leaves the bytes as they read. Or the disk
+-- is too short, exactly if it has fewer bytes than the image takes; or it failed.
 abbrev pub MadeImage : Limits → Meaning → Meaning → Status → Type 0
 MadeImage limits old new (Ended AtEnd) =
     (BLOCK_LEN * image_blocks limits ≤ old.len)

@@ -14,7 +14,7 @@ use Rattle.lis_rooms.specs.Rooms.{room_step, rooms_of}
 use Rattle.lis_shell.specs.declared.status.Status.{Status}
 use Rattle.lis_shell.specs.Image.{Work, EntryWith, is_opening, Completes}
 
--- a session of the items of an input, from where it begins in a state
+-- a session of the items of an input, by the situation in which it begins in a state
 abbrev pub serving : {P I : Type 0} → (SituationOf P → I → OutcomeOf P) → Cut I → (State → SituationOf P) → Work
 serving by cut start = record {
   takes_input = true;
@@ -30,7 +30,7 @@ serving by cut start = record {
 abbrev pub running : Work
 running = serving step session_cut root_of
 
--- `load`: the same, with many changes to a commit, and replies behind it
+-- `load`: the same, with many changes in one commit, and replies after it
 abbrev pub loading : Work
 loading = record {
   takes_input = true;
@@ -42,14 +42,14 @@ loading = record {
   ended = λ state. LoadServed (root_of state) (2 ^ 40);
 }
 
--- `rooms`: eight in one stream, each from the root
+-- `rooms`: eight sessions in one stream, each from the root
 abbrev pub rooming : Work
 rooming = serving room_step tagged_cut rooms_of
 
 abbrev pub AtEntry : Meaning → Option (List ℕ) → State → List ℕ → Type 0
 AtEntry m left state bytes = EntryWith m (left ≡ Some bytes) state
 
--- Every item was carried out and its reply shown. Or there was no memory at the opening: nothing was shown, no input was taken, and the image
--- stands for the same state.
+-- Every item was run and its reply shown. Or memory ran out at the opening: nothing was shown, no input was taken, and the image represents
+-- the same state.
 abbrev pub IsComplete : State → ℕ → List ℕ → Option (List ℕ) → Option (List ℕ) → Meaning → Status → Type 0
 IsComplete state limit bytes left before new status = Completes (left ≡ Some bytes) (IsAtEnd left × Carried step (root_of state) (all_items bytes) before new) state before new status

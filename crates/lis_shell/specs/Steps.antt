@@ -1,4 +1,4 @@
--- Words that are one step of the model, whatever the step is.
+-- Words that are one step of the model, for any step.
 use Rattle.std.specs.Prelude.{◌≡◌, ℕ, ◌≤◌, ◌<◌, List, [], length, Bool, true, false, Option, Some, Result, Ok, Err, refl}
 use Rattle.std.proofs.Common.{inl}
 use Rattle.std.specs.Io.KnownBytes.{append_known, IsAtEnd}
@@ -24,13 +24,13 @@ use Rattle.lis_shell.specs.declared.status.Status.{Status}
 use Rattle.lis_shell.specs.declared.status.Status.TheVariants.{Ended}
 use Rattle.lis_shell.specs.Image.{Work, ByResult, IsUnread, is_opening}
 
--- the step was made, and so much was shown
+-- the step was made, and these bytes were shown
 pub record StepShown (outcome : Outcome) (before : Option (List ℕ)) (new : Meaning) (bytes : List ℕ) : Type 0 where
   pub shown : new.shown ≡ append_known before bytes
   pub stands : Always new (λ image. Stands image outcome.next.state)
 
--- How it ended: its reply was shown whole; or a front of it, at a fault of showing; or there was a fault of the disk, and the moments tell what
--- stands.
+-- How it ended: its whole reply was shown; or, at a show fault, a prefix of it; or there was a disk fault, after which only the moments say
+-- what is on the disk.
 abbrev pub StepEnded : Outcome → Option (List ℕ) → Meaning → Result (Unit {0}) End → Type 0
 StepEnded outcome before new (Ok done) = StepShown outcome before new outcome.reply
 StepEnded outcome before new (Err DiskFault) = Unit {0}
@@ -52,25 +52,25 @@ stepping outcome = record {
 abbrev pub step_none : (state : State) (outcome : Outcome) (image : List ℕ) → Stands image state → InItem state outcome image []
 step_none state outcome image stands = inl (refl, stands)
 
--- nothing was shown, and the image stands for the state as before
+-- nothing was shown, and the image represents the state as before
 abbrev pub NothingDone : State → Option (List ℕ) → Meaning → Type 0
 NothingDone state before new = (new.shown ≡ before) × Always new (λ image. Stands image state)
 
--- How a step ended of which an input tells. The input was taken whole, and the step was made; or it is too long, or a call of it failed, and
--- nothing was done; or a call of the station failed.
+-- How a step ended that an input determines. The input was read to its end, and the step was made; or it is too long, or a source call
+-- failed, and nothing was done; or a station call failed.
 abbrev pub ToldStepEnded : ℕ → State → Outcome → List ℕ → Option (List ℕ) → Option (List ℕ) → Meaning → Halt End → Type 0
 ToldStepEnded limit state outcome bytes left before new AtEnd = (length bytes ≤ limit) × IsAtEnd left × StepShown outcome before new outcome.reply
 ToldStepEnded limit state outcome bytes left before new Limit = (limit < length bytes) × NothingDone state before new
 ToldStepEnded limit state outcome bytes left before new InputFault = NothingDone state before new
 ToldStepEnded limit state outcome bytes left before new (Stopped fault) = StepEnded outcome before new (Err fault)
 
--- the answers before an input was taken whole
+-- the statuses before an input was read to its end
 abbrev pub is_unbegun : Status → Bool
 is_unbegun (Ended halt) = is_untaken halt
 is_unbegun status = is_opening status
 
--- The work that is a step from the state, of which an input of at most so many bytes tells. Of a longer one at most a byte more is taken. Nothing
--- is done before the input was taken whole.
+-- The work that is a step from the state, determined by an input of at most this many bytes. Of a longer input at most one byte more is
+-- taken. Nothing is done before the input was read to its end.
 abbrev pub told_stepping : ℕ → (State → List ℕ → Outcome) → Work
 told_stepping limit outcome = record {
   takes_input = true;
@@ -86,7 +86,7 @@ told_stepping limit outcome = record {
 abbrev pub viewing : List ℕ → List ℕ → Work
 viewing name text = stepping (λ state. view (root_of state) name text)
 
--- `put`: an edited view of a file, which is the input, makes it anew
+-- `put`: an edited view of a file, which is the input, determines its new bytes
 abbrev pub putting : List ℕ → List ℕ → Work
 putting name text = told_stepping view_limit (λ state bytes. put (root_of state) name text bytes)
 

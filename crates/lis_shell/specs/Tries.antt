@@ -13,7 +13,7 @@ use Rattle.lis_plain.specs.declared.end.PlainEnd.TheVariants.{OutputFault as Sho
 use Rattle.lis_shell.specs.declared.status.Status.{Status}
 use Rattle.lis_shell.specs.declared.status.Status.TheVariants.{Opening, Ended}
 
--- Of the bytes taken, none of which lies past the limit, the items that are whole were carried out, and their replies were shown.
+-- Of the bytes taken, none of which is past the limit, the items that are whole were run, and their replies were shown.
 pub record ShowsWhole (start : Situation) (limit : ℕ) (bytes : List ℕ) (left before now : Option (List ℕ)) (end : Situation) : Type 0 where
   pub taken : List ℕ
   pub consumed : Consumes (Some bytes) left taken
@@ -21,7 +21,7 @@ pub record ShowsWhole (start : Situation) (limit : ℕ) (bytes : List ℕ) (left
   pub shown : now ≡ append_known before (replies start (whole_items taken))
   pub at : end ≡ situation_after start (whole_items taken)
 
--- Some first items were carried out, and their replies were shown, whole.
+-- Some first items were run, and their whole replies were shown.
 pub record ShowsFirst (start : Situation) (items : List Item) (before now : Option (List ℕ)) (end : Situation) : Type 0 where
   pub first : List Item
   pub others : List Item
@@ -29,7 +29,8 @@ pub record ShowsFirst (start : Situation) (items : List Item) (before now : Opti
   pub shown : now ≡ append_known before (replies start first)
   pub at : end ≡ situation_after start first
 
--- Some first items and the item behind them were carried out. The replies of the first items were shown, whole, and a front of its reply.
+-- Some first items and the item after them were run. The whole replies to the first items were shown, and a prefix of the reply to that
+-- item.
 pub record ShowsFront (start : Situation) (items : List Item) (before now : Option (List ℕ)) (end : Situation) : Type 0 where
   pub first : List Item
   pub item : Item
@@ -38,7 +39,7 @@ pub record ShowsFront (start : Situation) (items : List Item) (before now : Opti
   pub shown : AppendsFront (append_known before (replies start first)) now (step (situation_after start first) item).reply
   pub at : end ≡ (step (situation_after start first) item).next
 
--- what was shown and where the session ended, by the status, where the source had these bytes left
+-- what was shown and where the session ended, by the status, if the source had these bytes left at the start
 abbrev pub Tries : Situation → ℕ → List ℕ → Option (List ℕ) → Option (List ℕ) → Option (List ℕ) → Situation → Status → Type 0
 Tries start limit bytes left before now end (Ended AtEnd) =
     (length bytes ≤ limit) × IsAtEnd left × (now ≡ append_known before (replies start (script bytes limit))) × (end ≡ situation_after start (script bytes limit))
@@ -49,7 +50,7 @@ Tries start limit bytes left before now end (Ended (Stopped OutputFault)) = Show
 Tries start limit bytes left before now end (Opening NoMemory) = ShowsFirst start (script bytes limit) before now end
 Tries start limit bytes left before now end status = ⊥
 
--- where its items ended, as a session over an image would end; want of memory is one of the opening, wherever it comes
+-- the status by how its items ended, as for a session over an image; out of memory is a status of the opening, whenever it happens
 abbrev pub try_status : Halt PlainEnd → Status
 try_status AtEnd = Ended AtEnd
 try_status AtLimit = Ended AtLimit

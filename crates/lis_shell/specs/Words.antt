@@ -1,4 +1,4 @@
--- What the words of the command line ask for.
+-- What the words of the command line request.
 use Rattle.std.specs.Prelude.{ℕ, ◌*◌, nat_lt, not, ◌&&◌, if◌then◌else◌, Option, Some, None, List, [], ◌∷◌, IsTrue, codes, slice_index_or, ◌^◌, ⊤}
 use Rattle.lis_words.specs.Words.{same_word, is_count, count_of, is_file_name}
 use Rattle.lis_model.specs.declared.limits.Limits.{Limits}
@@ -18,11 +18,11 @@ limits_of version files props blocks =
     then Some (record { files = count_of files; props = count_of props; blocks = count_of blocks; version = version })
     else None
 
--- a count below 2^31, of which a session can be made
+-- a count below 2^31, from which a session can be made
 abbrev pub grow_number_of : List ℕ → Option ℕ
 grow_number_of digits = if is_count digits && nat_lt (count_of digits) (2 ^ 31) then Some (count_of digits) else None
 
--- three limits, with `v2` behind them or not: what begins with them is of version 2 or 1
+-- three limits, with or without `v2` after them: what begins with them is of version 2 or 1
 abbrev pub limits_in : List (List ℕ) → Option Limits
 limits_in [] = None
 limits_in (files ∷ []) = None
@@ -31,7 +31,7 @@ limits_in (files ∷ props ∷ blocks ∷ []) = limits_of 1 files props blocks
 limits_in (files ∷ props ∷ blocks ∷ last ∷ []) = if same_word last (codes "v2") then limits_of 2 files props blocks else None
 limits_in (files ∷ props ∷ blocks ∷ last ∷ more ∷ words) = None
 
--- the words with nothing behind their image
+-- the words with nothing after their image
 abbrev pub work_alone : List ℕ → Option ImageTask
 work_alone word =
     if same_word word (codes "run") then Some Run
@@ -40,7 +40,7 @@ work_alone word =
     else if same_word word (codes "dump") then Some Dump
     else None
 
--- a file's name behind the image, and a text behind that, which may be any
+-- a file name after the image, and any text after that
 abbrev pub part_named : List ℕ → List ℕ → Option ImageTask
 part_named word name =
     if not (is_file_name name) then None
@@ -48,7 +48,7 @@ part_named word name =
     else if same_word word (codes "put") then Some Put
     else None
 
--- what is to be done on an image that is there, by the first word and by those behind the image
+-- what is to be done on an existing image, by the first word and by those after the image
 abbrev pub work_named : List ℕ → List (List ℕ) → Option ImageTask
 work_named word [] = work_alone word
 work_named word (number ∷ []) = if same_word word (codes "grow") then option_map Grow (grow_number_of number) else None
@@ -66,20 +66,20 @@ task_with word words =
     else if same_word word (codes "upgrade") then upgrade_alone words
     else option_map OnImage (work_named word words)
 
--- `try` and three limits; or a word, an image, which is any text, and what the word asks for behind it
+-- `try` and three limits; or a word, an image, which is any text, and what the word requires after it
 abbrev pub task_of : List (List ℕ) → Option Task
 task_of [] = None
 task_of (word ∷ []) = None
 task_of (word ∷ second ∷ words) = if same_word word (codes "try") then option_map Try (limits_in (second ∷ words)) else task_with word words
 
--- the limits of an image that is to be made are in range
+-- the limits of an image to be made are in range
 abbrev pub MakesInRange : Task → Type 0
 MakesInRange (Try limits) = ⊤
 MakesInRange (Make limits) = IsTrue (are_in_range limits)
 MakesInRange Upgrade = ⊤
 MakesInRange (OnImage work) = ⊤
 
--- how many bytes an image takes that is to be made
+-- how many bytes an image to be made takes
 abbrev pub length_for : Option Task → Option ℕ
 length_for None = None
 length_for (Some (Try limits)) = None
@@ -87,7 +87,7 @@ length_for (Some (Make limits)) = Some (BLOCK_LEN * image_blocks limits)
 length_for (Some Upgrade) = None
 length_for (Some (OnImage work)) = None
 
--- the name of a file and the text of a formula, where the words have them behind an image
+-- the file name and the text of a formula, if the words have them after an image
 abbrev pub name_in : List (List ℕ) → List ℕ
 name_in words = slice_index_or words 2 []
 

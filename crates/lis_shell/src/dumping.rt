@@ -13,7 +13,7 @@ use lis_session::end::End;
 use lis_store::Store;
 use std::alloc::{AllocError, Global};
 
-/// `dump`: the session that makes the state again. It takes no input, and no memory behind the opening.
+/// `dump`: the session that makes the state again. It takes no input, and allocates no memory after the opening.
 #[derive(Clone, Copy)]
 pub struct Dumping;
 

@@ -1,4 +1,4 @@
-//! The large session that is made of a number, on an image.
+//! The large session that is made from a number, on an image.
 
 ghost use Rattle.lis_grow.specs.Session.{grow_items};
 ghost use Rattle.lis_grow.proofs.Growing.{grow_none};
@@ -13,7 +13,7 @@ use lis_session::end::End;
 use lis_store::Store;
 use std::alloc::{AllocError, Global};
 
-/// `grow`: the session that is made of the number. It takes no input.
+/// `grow`: the session that is made from the number. It takes no input.
 #[derive(Clone, Copy)]
 pub struct Growing(pub u32);
 

@@ -1,4 +1,4 @@
-//! An image that is opened, and the one work that a word does on it.
+//! An image that is opened, and the one work of a word on it.
 
 ghost use Rattle.std.specs.Prelude.{◌≡◌, ℕ, ◌^◌, List, [], Some, false, IfOk, IfErr, IsTrue};
 ghost use Rattle.lis_ports.specs.Calls.{StationFaultEnds, FaultEnds};
@@ -25,12 +25,13 @@ use lis_session::session::Session;
 use lis_store::Store;
 use std::alloc::{AllocError, Global};
 
-/// What a word does on an opened image.
+/// The work of a word on an opened image.
 pub trait ImageWork {
-    /// What it says of its moments and of its end.
+    /// What it states of its moments and of its end.
     ghost says: { Self → Work };
 
-    /// Does it. It takes all memory first, and where there is none it does nothing. It takes at most one byte past the limit of an input.
+    /// Does the work. It allocates all memory first, and if memory runs out it does nothing. It takes at most one byte past the limit of an
+    /// input.
     fn carry_on<S: Source, T: Station>(
         &self,
         alloc: Global,
@@ -59,11 +60,11 @@ pub trait ImageWork {
             → Goes ((says self.now).moment state bytes) state.limits (T.meaning station.old) (T.meaning station.new)
             ((says self.now).ended state bytes (S.left input.new) (T.meaning station.old).shown (T.meaning station.new) halt)) };
 
-    /// Before anything was shown the image may stand for the state of entry.
+    /// Before anything was shown the image may represent the initial state.
     ghost quiet: { (work : Self) (state : State) (bytes image : List ℕ) → Stands image state → (says work).moment state bytes image [] };
 }
 
-/// A session at the root over the store, and room for payloads. Where there is no memory the store is given back.
+/// A session at the root over the store, and room for payloads. If memory runs out the store is dropped.
 pub fn open_session(alloc: Global, store: Store) -> Result<(Session, Payload), AllocError>
     ensures { IfOk result (λ opened. opened.0 ≡ record { store = store; place = [] }) }
 {
@@ -87,7 +88,7 @@ pub fn halted(done: Result<(), End>) -> Halt<End>
     }
 }
 
-/// Opens the image, and does the work on it. All memory is taken before the work begins.
+/// Opens the image, and does the work on it. All memory is allocated before the work begins.
 pub fn work_on_image<W: ImageWork, S: Source, T: Station>(
     alloc: Global,
     work: &W,

@@ -1,4 +1,4 @@
-//! What the clauses of the tasks say together, each law the contract of a function with nothing to do.
+//! What the clauses of the tasks say together. Each law is the contract of a function that does nothing.
 
 ghost use Rattle.std.specs.Prelude.{◌≡◌, ℕ, ◌^◌, ◌≤◌, List, Some, length};
 ghost use Rattle.lis_line.specs.declared.carrier.Halt.TheVariants.{End as AtEnd};
@@ -16,10 +16,10 @@ ghost use Rattle.lis_shell.specs.declared.status.Status.TheVariants.{Ended};
 
 use lis_ports::{Source, Station};
 
-/// `try` and `run` show the same: where both are done with the same input, and the image of `run` stood for the empty state of the limits
-/// of `try`, each showed the model's replies to all commands of the input, behind what had been shown before.
+/// `try` and `run` show the same. If both came to the end of the same input, and the image of `run` represented the empty state of the
+/// limits of `try`, each showed the model's replies to all commands of the input, after what had been shown before.
 ///
-/// The premises are what `lisfs` says of the two words (`tries`, and `works` of `run`), of any two sources and stations.
+/// The premises are what `lisfs` states of the two words (`tries`, and `works` of `run`), of any two sources and stations.
 pub fn try_and_run_agree<R: Source, S: Source, T: Station, U: Station>()
     ensures { (limits : LimitsOf) (bytes : List ℕ)
         → (typed typed_after : R) (plain plain_after : T) (piped piped_after : S) (image image_after : U)
@@ -30,11 +30,11 @@ pub fn try_and_run_agree<R: Source, S: Source, T: Station, U: Station>()
         → ShowSame (T.meaning plain) (T.meaning plain_after) (U.meaning image) (U.meaning image_after) (replies_from_empty limits bytes) }
 {}
 
-/// `run` and `load` show the same and leave the same: where both are done with the same input, and both images stood for one state, each
-/// showed the model's replies to all commands of the input, behind what had been shown before, and each image stands for the state behind
-/// them, whatever a crash leaves.
+/// `run` and `load` show the same and leave the same. If both came to the end of the same input, and both images represented one state,
+/// each showed the model's replies to all commands of the input, after what had been shown before. Each image represents the state after
+/// these commands, whatever a crash leaves.
 ///
-/// The premises are what `lisfs` says of the two words (`works`), of any two sources and stations.
+/// The premises are what `lisfs` states of the two words (`works`), of any two sources and stations.
 pub fn run_and_load_agree<R: Source, S: Source, T: Station, U: Station>()
     ensures { (state : State) (bytes : List ℕ)
         → (piped piped_after : R) (image image_after : T) (fed fed_after : S) (other other_after : U)
@@ -45,10 +45,9 @@ pub fn run_and_load_agree<R: Source, S: Source, T: Station, U: Station>()
         → EndSame (T.meaning image) (T.meaning image_after) (U.meaning other) (U.meaning other_after) (replies_from state bytes) (state_behind state bytes) }
 {}
 
-/// `run`, where no call failed and the input has at most 2^40 bytes: each item was carried out and its reply shown; or there was no memory
-/// at the opening.
+/// `run`, if no call failed and the input has at most 2^40 bytes: each item was run and its reply shown; or memory ran out at the opening.
 ///
-/// The premise is what `lisfs` says of `run` (`work_complete`), of any source and station.
+/// The premise is what `lisfs` states of `run` (`work_complete`), of any source and station.
 pub fn run_complete<S: Source, T: Station>()
     ensures { (state : State) (bytes : List ℕ) (input input_after : S) (image image_after : T) (status : StatusOf)
         → WorkComplete running (S.left input) (S.left input_after) (counts (T.meaning image) (S.faults input)) (counts (T.meaning image_after) (S.faults input_after))
@@ -58,10 +57,10 @@ pub fn run_complete<S: Source, T: Station>()
         → IsComplete state (2 ^ 40) bytes (S.left input_after) (T.meaning image).shown (T.meaning image_after) status }
 {}
 
-/// `grow`: stopped at any moment, the image stands for the model's state after some first items of the session, and what was shown is a
-/// front of its summary: nothing before all items were carried out; or it is what a stop could have left at entry.
+/// `grow`: at any moment the image represents the model's state after some first items of the session, and what was shown is a prefix of
+/// its summary, of which nothing is shown before all items were run. Or the image is one that a stop could have left at the start.
 ///
-/// The premise is what `lisfs` says of `grow` (`work_headline`), of any source and station.
+/// The premise is what `lisfs` states of `grow` (`work_headline`), of any source and station.
 pub fn grow_headline<S: Source, T: Station>()
     ensures { (n : ℕ) (state : State) (input : S) (image image_after : T)
         → WorkHeadline (growing n) (S.left input) (T.meaning image) (T.meaning image_after)
@@ -69,9 +68,9 @@ pub fn grow_headline<S: Source, T: Station>()
         → GrowHeadline state (grow_items n) (T.meaning image) (T.meaning image_after) }
 {}
 
-/// `grow`, where no call failed: each item was carried out and the summary was shown; or there was no memory at the opening.
+/// `grow`, if no call failed: each item was run and the summary was shown; or memory ran out at the opening.
 ///
-/// The premise is what `lisfs` says of `grow` (`work_complete`), of any source and station.
+/// The premise is what `lisfs` states of `grow` (`work_complete`), of any source and station.
 pub fn grow_complete<S: Source, T: Station>()
     ensures { (n : ℕ) (state : State) (input input_after : S) (image image_after : T) (status : StatusOf)
         → WorkComplete (growing n) (S.left input) (S.left input_after) (counts (T.meaning image) (S.faults input)) (counts (T.meaning image_after) (S.faults input_after))

@@ -1,4 +1,4 @@
-//! A session over an image with many changes to a commit.
+//! A session over an image with many changes in one commit.
 
 ghost use Rattle.std.specs.Prelude.{◌^◌};
 ghost use Rattle.lis_model.specs.Script.{script};
@@ -16,7 +16,7 @@ use lis_session::end::End;
 use lis_store::Store;
 use std::alloc::{AllocError, Global};
 
-/// `load`: the session of the commands of the input, with many changes to a commit.
+/// `load`: the session of the commands of the input, with many changes in one commit.
 #[derive(Clone, Copy)]
 pub struct Loading;
 

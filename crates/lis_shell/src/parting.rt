@@ -1,4 +1,4 @@
-//! A part of a file: its lines of which a formula holds, shown and put back.
+//! A part of a file: those of its lines of which a formula holds, shown and put back.
 
 ghost use Rattle.std.specs.Prelude.{◌≡◌, ◌<◌, length, map, IsTrue, IfOk};
 ghost use Rattle.std.specs.String.{string_bytes};
@@ -24,7 +24,7 @@ pub struct Part<'a> {
     pub text: &'a [u8],
 }
 
-/// The file and the formula that the words name behind an image.
+/// The file name and the formula in the words after an image.
 pub fn part_in(words: &[String]) -> Part<'_>
     requires words { 3 < length words.now }
     requires name { IsTrue (is_file_name (name_in (map string_bytes words.now))) }
@@ -40,7 +40,7 @@ pub fn part_in(words: &[String]) -> Part<'_>
     }
 }
 
-/// The memory for parts of the files of the store. Where there is none the store is given back.
+/// The memory for parts of the files of the store. If memory runs out the store is dropped.
 fn open_workspace(alloc: Global, store: Store) -> Result<(Store, Workspace), AllocError>
     ensures { IfOk result (λ opened. (opened.0 ≡ store) × (opened.1 ≡ store.metadata.limits)) }
 {
@@ -76,7 +76,7 @@ impl ImageWork for Viewing<'_> {
     }
 }
 
-/// `put`: a file made anew of an edited view of it, which is the input.
+/// `put`: the new bytes of a file from an edited view of it, which is the input.
 #[derive(Drop)]
 pub struct Putting<'a>(pub Part<'a>);
 

@@ -17,7 +17,7 @@ use lis_session::end::End;
 use lis_store::Store;
 use std::alloc::{AllocError, Global};
 
-// The rooms over the store, all at the root, and room for payloads. Where there is no memory the store is given back.
+// The rooms over the store, all at the root, and room for payloads. If memory runs out the store is dropped.
 fn open_rooms(alloc: Global, store: Store) -> Result<(Rooms, Payload), AllocError>
     ensures { IfOk result (λ opened. opened.0 ≡ record { store = store; place = replicate 8 [] }) }
 {

@@ -28,8 +28,8 @@ fn status_at(halt: Halt<PlainEnd>) -> Status
     }
 }
 
-/// Carries out the items of the input on a plain state, up to its end, its limit or the first fault. It takes at most one
-/// byte past the limit. What an honest disk reads as, and what a crash leaves of it, stays.
+/// Runs the items of the input on a plain state, up to its end, its limit or the first fault. It takes at most one byte past the limit.
+/// What an honest disk reads as, and what a crash leaves of it, stays.
 pub fn try_session<S: Source, T: Station>(
     plain: &mut Plain,
     payload: &mut Payload,

@@ -15,27 +15,29 @@ use lis_session::end::End;
 pub enum Status {
     /// The words are in no form, or a limit or the number of `grow` is out of range. Nothing was read.
     Usage,
-    /// The image was not opened, or `make` or `upgrade` did not make it. Or there was no memory for what follows an opening: in `try` that may
-    /// come between two commands.
+    /// The image was not opened, or `make` or `upgrade` did not make it. Or memory ran out for what follows an opening; in `try` this may
+    /// happen between two commands.
     Opening(OpenFault),
-    /// How what follows the opening ended. At the end of `run`, `rooms` and `try` every item of the input has its reply shown; of `dump`, the
-    /// dump was shown; of `grow`, every item of its session was carried out, and the summary was shown; of `make`, the image was made; of `upgrade`, the image is of version 2.
+    /// How what follows the opening ended. At the end of `run`, `load`, `rooms` and `try` every item of the input has its reply shown. At
+    /// the end of `dump` the dump was shown, and of `view` the view or its refusal. At the end of `put` the input was read to its end and
+    /// the reply shown. At the end of `grow` every item of its session was run, and the summary was shown. At the end of `make` the image
+    /// was made, and of `upgrade` the image is of version 2.
     Ended(Halt<End>),
 }
 
 impl Status {
     /// All was done.
     pub const DONE: Status = Status::Ended(Halt::End);
-    /// There is no memory.
+    /// Out of memory.
     pub const NO_MEMORY: Status = Status::Opening(OpenFault::NoMemory);
     /// The input is longer than 2^40 bytes.
     pub const INPUT_LIMIT: Status = Status::Ended(Halt::Limit);
-    /// A call of the source failed.
+    /// A source call failed.
     pub const INPUT_FAULT: Status = Status::Ended(Halt::InputFault);
     /// A call that shows failed.
     pub const OUTPUT_FAULT: Status = Status::Ended(Halt::Stopped(End::OutputFault));
 
-    /// Whether a call of the disk failed, in an opening or behind it.
+    /// Whether a disk call failed, in an opening or after it.
     pub fn is_disk_fault(&self) -> bool
         ensures { result ≡ is_disk_fault self.now }
     {
@@ -83,7 +85,7 @@ fn message(status: &Status) -> &'static [u8]
     }
 }
 
-/// The text on standard error; empty where the program is done.
+/// The text on standard error; empty if the program is done.
 pub fn status_text(status: &Status) -> Text
     ensures { result ≡ status_text_of status.now }
 {

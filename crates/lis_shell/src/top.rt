@@ -87,7 +87,7 @@ fn upgrade_image<T: Station>(alloc: Global, station: &mut T) -> Status
     }
 }
 
-// Carries out the task that the words ask for, if any.
+// Runs the task that the words request, if any.
 fn carry_task<S: Source, T: Station>(
     alloc: Global,
     words: &[String],
@@ -123,23 +123,29 @@ fn carry_task<S: Source, T: Station>(
     }
 }
 
-/// Does what the words after the program's name ask for.
+/// Does what the words after the program's name request.
 ///
-/// `try FILES PROPS BLOCKS` carries out the commands of the input on a state that begins empty, and shows the replies; what the disk reads
-/// as, and what a crash leaves of it, stays. `make IMAGE FILES PROPS BLOCKS` makes an image of the empty state; it reads no input and shows
-/// nothing. With `v2` behind the words of these two the state is of version 2, and else of version 1. `run IMAGE` opens the image, carries
-/// out the commands of the input on it and shows the replies. `load IMAGE` does the same with many changes to a commit: a reply shows
-/// after the commit, and of the items whose changes the image has, at most 256 have replies that were not shown whole. `rooms IMAGE` does
-/// what `run` does for up to eight sessions in one stream, each at a place of its own: the tag of a line, `@0` to `@7`, says whose it is,
-/// and follows the reply. `upgrade IMAGE` makes the image one of version 2; it reads no input and shows nothing. `dump IMAGE` opens the
-/// image and shows the session that makes its state again; it reads no input. `grow IMAGE N` opens the image and carries out the large
-/// session that is made of the number, below 2^31; it reads no input, and shows a summary instead of the replies. `view IMAGE NAME F` opens
-/// the image and shows the lines of the file NAME of which the formula F holds, with marks instead of the others; it reads no input. `dump`
-/// and `view` write nothing, but for what opening writes if a gate of the journal is open. `put IMAGE NAME F` opens the image, reads an
-/// edited view of the file, of at most 8,388,608 bytes, and makes the file again of it. IMAGE is not looked at here: the station is the
-/// image. Any other words are `Usage`, which is judged before anything is read or taken.
+/// - `try FILES PROPS BLOCKS` runs the commands of the input on a state that begins empty, and shows the replies. What the disk reads as,
+///   and what a crash leaves of it, stays.
+/// - `make IMAGE FILES PROPS BLOCKS` makes an image of the empty state. It reads no input and shows nothing. With `v2` after the words of
+///   `try` or `make` the state is of version 2, and otherwise of version 1.
+/// - `run IMAGE` opens the image, runs the commands of the input on it and shows the replies.
+/// - `load IMAGE` does the same with many changes in one commit. A reply is shown after the commit. Of the items whose changes the image
+///   has, at most 256 have replies that were not shown whole.
+/// - `rooms IMAGE` does what `run` does for up to eight sessions in one stream, each at its own place. The tag of a line, `@0` to `@7`,
+///   says whose line it is, and follows the reply.
+/// - `upgrade IMAGE` makes the image one of version 2. It reads no input and shows nothing.
+/// - `dump IMAGE` opens the image and shows the session that makes its state again. It reads no input.
+/// - `grow IMAGE N` opens the image and runs the large session that is made from the number, below 2^31. It reads no input, and shows a
+///   summary instead of the replies.
+/// - `view IMAGE NAME F` opens the image and shows the lines of the file NAME of which the formula F holds, with marks instead of the
+///   others. It reads no input. `dump` and `view` write nothing, except what opening writes if a gate of the journal is open.
+/// - `put IMAGE NAME F` opens the image, reads an edited view of the file, of at most 8,388,608 bytes, and makes the file's new bytes from
+///   it.
 ///
-/// Want of memory in a word that opens an image comes at the opening alone, with nothing shown; in `try` it may come between two
+/// IMAGE is not used here: the station is the image. Any other words are `Usage`, which is judged before anything is read or allocated.
+///
+/// In a word that opens an image, memory can run out only at the opening, with nothing shown. In `try` it can also run out between two
 /// commands.
 pub fn lisfs<S: Source, T: Station>(
     alloc: Global,
@@ -155,8 +161,8 @@ pub fn lisfs<S: Source, T: Station>(
     ensures input_first_fault { FaultEnds (S.faults input.old) (S.behind input.old) (S.behind input.new) }
     ensures few { TakesFew (2 ^ 40) (S.left input.old) (S.left input.new) }
 
-    // `run`: stopped at any moment, the image stands for the model's state after some first items, and what was shown is a front of
-    // exactly their replies; or it is what a stop could have left at entry, with nothing shown since.
+    // `run`: at any moment the image represents the model's state after some first items, and what was shown is a prefix of exactly their
+    // replies. Or the image is one that a stop could have left at the start, with nothing shown since.
     ensures headline { task_of (map string_bytes words.now) ≡ Some (OnImage Run) → (state : State) (bytes : List ℕ)
         → AtEntry (T.meaning station.old) (S.left input.old) state bytes
         → Headline state (script bytes (2 ^ 40)) (T.meaning station.old) (T.meaning station.new) }
@@ -165,7 +171,7 @@ pub fn lisfs<S: Source, T: Station>(
         → ((image : List ℕ) → (T.meaning station.old).images image → image ≡ (T.meaning station.old).bytes)
         → FullHeadline step (root_of state) (script bytes (2 ^ 40)) (T.meaning station.old) (T.meaning station.new) }
 
-    // `load` and `rooms` on an image of which nothing is unsynced: each moment is one of the work, with no exception.
+    // `load` and `rooms` on an image of which nothing is unsynced: each moment is one of the work, without an exception.
     ensures load_settled { task_of (map string_bytes words.now) ≡ Some (OnImage Load) → (state : State) (bytes : List ℕ)
         → AtEntry (T.meaning station.old) (S.left input.old) state bytes
         → ((image : List ℕ) → (T.meaning station.old).images image → image ≡ (T.meaning station.old).bytes)
@@ -175,8 +181,9 @@ pub fn lisfs<S: Source, T: Station>(
         → ((image : List ℕ) → (T.meaning station.old).images image → image ≡ (T.meaning station.old).bytes)
         → FullHeadline room_step (rooms_of state) (room_script bytes (2 ^ 40)) (T.meaning station.old) (T.meaning station.new) }
 
-    // Each work on an image: stopped at any moment, it is a moment of the work; or it is what a stop could have left at entry, with nothing
-    // shown since. Where the image was not opened, or the input of `put` was not taken whole, the work was not begun at any moment.
+    // Each work on an image: each moment is a moment of the work; or the image is one that a stop could have left at the start, with
+    // nothing shown since. If the image was not opened, or the input of `put` was not read to its end, the work was not begun at any
+    // moment.
     ensures work_headline { (task : WorkNamed) → task_of (map string_bytes words.now) ≡ Some (OnImage task)
         → WorkHeadline (work_of (map string_bytes words.now) task) (S.left input.old) (T.meaning station.old) (T.meaning station.new) }
     ensures work_undone { (task : WorkNamed) → task_of (map string_bytes words.now) ≡ Some (OnImage task)

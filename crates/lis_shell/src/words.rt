@@ -9,10 +9,10 @@ use lis_limits::BLOCK_LEN;
 use lis_model::limits::{Limits, image_blocks, is_blocks_limit, is_files_limit, is_props_limit};
 use lis_words::{read_count, read_name};
 
-/// Large sessions are made of the numbers below.
+/// The numbers of large sessions are below this.
 const GROW_END: u64 = 1 << 31;
 
-/// The forms of the words, one a line.
+/// The forms of the words, one on each line.
 pub const FORMS: &[u8] = b"lisfs try FILES PROPS BLOCKS [v2]
 lisfs make IMAGE FILES PROPS BLOCKS [v2]
 lisfs run IMAGE
@@ -25,35 +25,35 @@ lisfs upgrade IMAGE
 lisfs grow IMAGE N
 ";
 
-/// What the words of the command line ask for.
+/// What the words of the command line request.
 #[derive(Clone, Copy, Debug, PartialEq, Eq)]
 pub enum Task {
-    /// `try FILES PROPS BLOCKS`, with `v2` behind it or not: a session over a state that begins empty, of version 2 or 1.
+    /// `try FILES PROPS BLOCKS`, with or without `v2` after it: a session over a state that begins empty, of version 2 or 1.
     Try(Limits),
-    /// `make IMAGE FILES PROPS BLOCKS`, with `v2` behind it or not: an empty image, of version 2 or 1.
+    /// `make IMAGE FILES PROPS BLOCKS`, with or without `v2` after it: an empty image, of version 2 or 1.
     Make(Limits),
     /// `upgrade IMAGE`: an image of version 2.
     Upgrade,
-    /// One work on an image that is there.
+    /// One work on an existing image.
     OnImage(ImageTask),
 }
 
-/// A work on an image that is there.
+/// A work on an existing image.
 #[derive(Clone, Copy, Debug, PartialEq, Eq)]
 pub enum ImageTask {
     /// `run IMAGE`: a session.
     Run,
-    /// `load IMAGE`: a session with many changes to a commit.
+    /// `load IMAGE`: a session with many changes in one commit.
     Load,
     /// `rooms IMAGE`: up to eight sessions in one stream.
     Rooms,
     /// `dump IMAGE`: the session that makes the state again, as text.
     Dump,
-    /// `grow IMAGE N`: the large session that is made of the number.
+    /// `grow IMAGE N`: the large session that is made from the number.
     Grow(u32),
     /// `view IMAGE NAME F`: the lines of a file of which a formula holds, shown.
     View,
-    /// `put IMAGE NAME F`: a file made anew of an edited view of it.
+    /// `put IMAGE NAME F`: the new bytes of a file from an edited view of it.
     Put,
 }
 
@@ -184,7 +184,8 @@ fn task_with(word: &String, words: &[String]) -> Option<Task>
     Some(Task::OnImage(work))
 }
 
-/// What the words after the program's name ask for. None comes exactly where they are in none of the forms, or a number is out of range.
+/// What the words after the program's name request. The result is `None` exactly if they are in none of the forms, or a number is out of
+/// range.
 pub fn task_of(words: &[String]) -> Option<Task>
     ensures task { result ≡ task_of (map string_bytes words.now) }
     ensures range { IfSome result MakesInRange }
@@ -201,7 +202,7 @@ pub fn task_of(words: &[String]) -> Option<Task>
     }
 }
 
-/// How many bytes the image takes that the task makes. None comes exactly where it makes none.
+/// How many bytes the image takes that the task makes. The result is `None` exactly if it makes none.
 pub fn make_len(task: &Task) -> Option<u64>
     requires { MakesInRange task.now }
     ensures { result ≡ length_for (Some task.now) }

@@ -1,4 +1,4 @@
--- The row of a new file, told by what a store keeps, is the row of the state; and what holds where it refuses nothing.
+-- The row of a new file: by what a store keeps it is the row of the state. Also what holds if it refuses nothing.
 use Rattle.std.proofs.Common.{rules}
 use Rattle.lis_store.proofs.Common.{◌≡◌, refl, sym, ap, ap₂, ◌∙◌, subst, ℕ, ◌≤◌, nat_lt, nat_le, Bool, true, false, not, cond, is_some, Option, Some, None, List, [], ◌∷◌, ◌++◌, length, Result, Err, arith, ◌⊎◌, inl, inr, list_any, list_all, ltb-false, not-false, ltb-true, leb-true, Meaning, free_count, slot_of, Formula, word_cmp, is_file_name, is_built_in, Limits, Refusal, UnknownProperty, NameTaken, LargeFile, NoSpace, place_words, State, File, is_assignable, file_limit, blocks_taken, derived_words, derived_built_in, description, file_cmp, has_name, new_file, file_added, Situation, Payload, assigned_at, free_blocks, add, exceeds_words, exceeds_known, word_order, rising_from_sorted, Metadata, declared_of, Among, among_insert_key, with_words, leb-false, known, changed, all_among, all_from, among_from_any, any_from_among, same_tests}
 use Rattle.lis_model.specs.declared.refusal.Refusal.TheVariants.{NotAPlace, NotAssignable, TooManyAssigned, NoFileRoom, BuiltIn}
@@ -19,7 +19,7 @@ use Rattle.lis_laws.proofs.Growth.{known_adds_file}
 use Rattle.lis_laws.proofs.Named.{file_there}
 use Rattle.lis_store.proofs.FreeBlocks.{used_told}
 
--- ---- what words are refused for, beside all files or in the place of one
+-- ---- what words are refused for, when a file is added or replaces another
 module _ (k : Stored) (s : State) (sound : IsSound k) (fits : ToldBy k s) where
   abbrev kept : Metadata
   kept = k.metadata
@@ -36,7 +36,7 @@ module _ (k : Stored) (s : State) (sound : IsSound k) (fits : ToldBy k s) where
   pub free_are : free_count kept.taken ≡ free_blocks s
   free_are = omega (arith, used_told k s sound fits)
 
-  -- of the files some are left, and memory tells the words that are known then
+  -- some of the files are left, and memory has the words that are known then
   module _ (old : Option ℕ) (files : List File) (left : (f : File) → Among files f → Among s.files f) (known_are : words_beside kept old ≡ known (record s { files = files }))
       (file : File) (own : List (List ℕ)) (are_own : AreOwnWords s.declared s.axioms own file) (new : has_name files file.name ≡ false) where
     abbrev rest : State
@@ -92,13 +92,13 @@ room_refused k place name words bytes size given is named refusal first = search
 pub none_there : {X : Type 0} (o : Option X) → is_some o ≡ false → o ≡ None
 none_there o e = search (rules)
 
--- What a store asks of a payload speaks of the store's value, and what is proved speaks of its metadata.
+-- What a store requires of a payload is about the store's value, and what is proved is about its metadata.
 pub whole_inside : {old now : Stored} (bytes : List ℕ) (size : ℕ) → old ≡ now → (size ≤ file_limit now.metadata.limits.version → length bytes ≡ size)
     → size ≤ file_limit old.metadata.limits.version → length bytes ≡ size
 whole_inside bytes size is whole small = whole (subst (λ (k : Stored). size ≤ file_limit k.metadata.limits.version) is small)
 
 -- ---- a row that refuses nothing
--- A file of a name, with the words of a place and words that were named, is let in.
+-- A file of a name, with the words of a place and words that were named, is admitted.
 module _ (k : Metadata) (place : List Formula) (name : List ℕ) (words : List (List ℕ)) (bytes : List ℕ) (size : ℕ) (form : is_file_name name ≡ true) (whole : size ≤ file_limit k.limits.version → length bytes ≡ size)
     (none : first_refusal (add_checks_of k place name words bytes size) ≡ None) where
   abbrev let_in : File
@@ -143,7 +143,7 @@ module _ (k : Stored) (s : State) (sound : IsSound k) (fits : ToldBy k s) (place
     abbrev new_one : File
     new_one = new_file name (assigned_at place words) bytes
 
-    -- the checks that the words do not matter for
+    -- the checks for which the words do not matter
     abbrev front : Limits → Bool → List (List ℕ) → ℕ → List (Bool × Refusal)
     front limits taken declared files =
         (nat_lt (file_limit limits.version) size, LargeFile)
@@ -169,7 +169,7 @@ module _ (k : Stored) (s : State) (sound : IsSound k) (fits : ToldBy k s) (place
         ∙ (ap₂ (λ l taken. first_refusal (front l taken (declared_of p) (length p.catalog.entries) ++ rest)) limits (sym named)
         ∙ ap₂ (λ declared files. first_refusal (front s.limits (has_name s.files name) declared files ++ rest)) (declared_are k s sound fits) (sym (files_counted p fits.kept s sound.metadata sound.free fits.tells)))
 
-  -- what `add` comes to
+  -- what `add` gives
   pub add_done : (name : List ℕ) (payload : Payload) → first_refusal (add_checks_of p place name words payload.bytes payload.size) ≡ None
       → add now name words payload ≡ changed now (file_added s (new_file name (assigned_at place words) payload.bytes))
   add_done name payload none =

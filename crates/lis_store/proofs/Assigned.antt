@@ -1,4 +1,5 @@
--- The words of a place: which a new file is given and how they are put into a set, and the numbers of those under which a word is declared.
+-- The words of a place: which of them are assigned to a new file and how they are put into a set, and the numbers of those under which a
+-- word is declared.
 use Rattle.lis_store.proofs.Common.{common_steps, rules, ◌≡◌, ◌⊎◌, refl, sym, ap, ap₂, ◌∙◌, subst, inl, inr, ℕ, suc, ◌+◌, ◌<◌, nat_le, Bool, true, false, cond, ◌&&◌, ◌||◌, is_some, IsSome, Option, Some, None, List, [], ◌∷◌, ◌++◌, length, take, drop, get_or, filter, slice_get, append-nil, arith, ◌≤◌, option_to_list, length-append, unwrap_or, flat_map, list_all, IsStrictlySortedBy, Ordering, Less, Equal, Greater, match_ordering, and-true, and-false, or-false, and_parts, or_cases, leb-true, take_more, IsStrictlySortedBy-filter, Among, among_filter, filter_among, among_flat_map, sorted_nil, word_cmp, same_word, has_word, is_plain_word, is_valued, head_bytes, Formula, Node, nodes_of, node_words, with_word, with_words, place_words, is_assignable, assigned_at, word_exact, word_order, same_word_decides, among_from_has_word, among_with_words, with_words_new, among_set_of, sorted_with_words, sorted_set_of, plain_not_valued, Metadata, is_declared, declared_of, take_all, Contains-get_or, among_from_contains, among_insert_key, insert_key_old, sorted_insert_key, number_of, word_of, word_from_number, words_at, all_weaker, AreSound, word_among, option_map, and_from, or_left, or_right, both_ways, leb-false, le-leb, false_from_ne_true, flat_map-append, flat_map_among, set_of, tags_at, has_word_from_among, with_words_old, set_of_among, same_words, all_among, all_from, same_tests, has_number, words_told, declared_there}
 use Rattle.std.specs.List.{prefix_len, insert}
 use Rattle.std.specs.Ordering.{is_gt}
@@ -56,7 +57,7 @@ place_words_are place = ap (option_map set_of) (steps_words place)
 pub place_has_words : (place : List Formula) → list_all is_conjunct (nodes_of place) ≡ is_some (place_words place)
 place_has_words place = search (rules, steps_words)
 
--- ---- the words that its files can be given
+-- ---- the words that can be assigned to its files
 node_tag : (nodes : List Node) (w : List ℕ) → Among (filter is_tag (set_of (words_in nodes))) w → Among (flat_map node_tags nodes) w
 node_tag nodes w m =
     let of_set = among_filter is_tag (set_of (words_in nodes)) w m in
@@ -122,7 +123,7 @@ pub all_assigned : (test : List ℕ → Bool) (place : List Formula) (words : Li
     → list_all test (assigned_at place words) ≡ (list_all (λ node. list_all test (node_tags node)) (nodes_of place) && list_all test words)
 all_assigned test place words some = search (rules, assigned_is, all_with, all_flat)
 
--- ---- a word at its place in a set
+-- ---- a word at its index in a set
 one_more : (n : ℕ) → 1 + n ≡ suc n
 one_more n = omega arith
 
@@ -153,7 +154,7 @@ with_words-append words (w ∷ more) others = with_words-append (with_word words
 pub takes_more : (more others old mid new : List (List ℕ)) (fits : Bool) → Takes more old mid true → Takes others mid new fits → Takes (more ++ others) old new fits
 takes_more more others old mid new fits first next = grind (arith, common_steps, with_words-append)
 
--- where there is no room for some, there is none for all
+-- if there is no room for some, there is none for all
 pub takes_not : (more others old mid : List (List ℕ)) → Takes more old mid false → Takes (more ++ others) old mid false
 takes_not more others old mid takes = record {
   room = sym (false_from_ne_true (nat_le (length (with_words old (more ++ others))) 16) (λ fits.
@@ -180,7 +181,7 @@ pub each_alone : (words : List (List ℕ)) → flat_map (λ (w : List ℕ). w �
 each_alone [] = refl
 each_alone (w ∷ words) = ap (λ ws. w ∷ ws) (each_alone words)
 
--- ---- all words that a new file is given
+-- ---- all words that are assigned to a new file
 module _ (place : List Formula) (words start mid : List (List ℕ)) (some : IsSome (place_words place)) (none : start ≡ []) where
   pub too_many : Takes (flat_map node_tags (nodes_of place)) start mid false → 16 < length (assigned_at place words)
   too_many takes =
@@ -240,7 +241,7 @@ words_of_nodes place some = search (rules, place_words_are, place_has_words)
 with_word_same : (words : List (List ℕ)) (word : List ℕ) → IsStrictlySortedBy word_cmp words → Among words word → with_word words word ≡ words
 with_word_same words word sorted there = search (rules, same_words, sorted_insert_key, word_order, among_insert_key, insert_key_old)
 
--- ---- numbers that come one after another
+-- ---- numbers that are added one after another
 pub declared_is : (k : Metadata) (word : List ℕ) (n : ℕ) → declared_number k word ≡ Some n → (is_declared k word ≡ true) × (number_of k.dict word ≡ Some n)
 declared_is k word n is = search (rules)
 
@@ -291,7 +292,7 @@ pub numbers_all : (k : Metadata) (place : List Formula) (nodes : List Node) (i :
     → AreNumbersIn k (take i nodes) numbers → AreNumbersOf k (words_at place) numbers
 numbers_all k place nodes i numbers some is end are = search (rules, take_all, words_of_nodes)
 
--- where the word of a node is not declared
+-- if the word of a node is not declared
 pub not_all_declared : (k : Metadata) (place : List Formula) (nodes : List Node) (node : Node) (old new : List ℕ) (fits : Bool) → IsSome (place_words place) → nodes ≡ nodes_of place → Among nodes node
     → fits ≡ false → TakesNumbers k (node_words node) old new fits → list_all (is_declared k) (words_at place) ≡ false
 not_all_declared k place nodes node old new fits some is m not_fit takes =

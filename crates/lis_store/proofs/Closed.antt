@@ -18,7 +18,7 @@ use Rattle.lis_store.proofs.Entailed.{entails_told}
 use Rattle.lis_store.proofs.Widened.{where_counted}
 
 -- ---- what numbers entail
--- the words of the two, of which the one entails the other
+-- the words of the two numbers, of which the first entails the second
 pub record IsLed (k : Metadata) (m n : ℕ) : Type 0 where
   pub from : List ℕ
   pub to : List ℕ
@@ -66,7 +66,7 @@ closure_named k numbers n h = let from = from_closure k numbers n h in ap is_som
 pub closure_words : (k : Metadata) (numbers : List ℕ) → list_all (λ n. is_some (word_of k.dict n)) (closure k numbers) ≡ true
 closure_words k numbers = all_from (λ n. is_some (word_of k.dict n)) (closure k numbers) (λ n m. closure_named k numbers n (number_from_among (closure k numbers) n m))
 
--- rising numbers among others are no more than those
+-- there are at most as many rising numbers among others as there are others
 set_le : (xs ys : List ℕ) → length (with_more nat_cmp xs ys) ≤ length xs + length ys
 set_le xs [] = omega arith
 set_le xs (y ∷ ys) = omega (arith, insert_key_le nat_cmp xs y, set_le (insert_key nat_cmp xs y) ys)
@@ -101,7 +101,7 @@ module _ (k : Metadata) (sound : AreSound k) (numbers : List ℕ) where
       few_within (closure k numbers) (numbers_at k.ext slot) (sorted_where k.limits.props (is_gained k numbers))
       (λ n m. among_from_number (numbers_at k.ext slot) n (closure_within closed slot within n (number_from_among (closure k numbers) n m)))
 
-  -- They tell all that words entail, where each of these words has one of the numbers, and the words of the numbers come from them.
+  -- They represent all that words entail, if each of these words has one of the numbers, and the words of the numbers come from them.
   pub closure_told : (own : List (List ℕ)) → ((w : List ℕ) → Among own w → (n : ℕ) × (word_of k.dict n ≡ Some w) × Among numbers n)
       → ((n : ℕ) (w : List ℕ) → word_of k.dict n ≡ Some w → Among numbers n → Among (all_up (declared_of k) (axioms_of k) own) w)
       → words_told k.dict (closure k numbers) ≡ all_up (declared_of k) (axioms_of k) own
@@ -121,7 +121,7 @@ module _ (k : Metadata) (sound : AreSound k) (numbers : List ℕ) where
       })
 
 -- ---- by a taxonomy
--- a taxonomy tells what numbers entail
+-- a taxonomy shows what numbers entail
 pub number_led : (k : Metadata) → AreSound k → (t : Taxonomy) → TellsLinks k t → (m n : ℕ) → is_some (word_of k.dict m) ≡ true → entails t m n ≡ is_entailed k m n
 number_led k sound t tells m n some =
     let w = some_word (word_of k.dict m) some in

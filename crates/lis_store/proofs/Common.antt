@@ -1,4 +1,4 @@
--- The names that most proofs of this crate cite, passed on from one place. Declares nothing.
+-- Passes on the names that most proofs of this crate cite. Declares nothing.
 pub use Rattle.arrayvec.specs.ArrayVec.{ArrayVec}
 pub use Rattle.lis_bits.specs.Rows.{HasShape, get, with_row}
 pub use Rattle.lis_blockmap.specs.Bitmap.{free_count, is_taken}

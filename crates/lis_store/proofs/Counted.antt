@@ -1,4 +1,4 @@
--- How much of a state a store tells.
+-- How much of a state a store reports.
 use Rattle.lis_store.proofs.Common.{◌≡◌, length, sym, ap, ◌∙◌, arith, free_count, State, free_blocks, axioms_of, axioms_counted}
 use Rattle.lis_store.specs.Stored.{Stored, IsSound}
 use Rattle.lis_store.proofs.ToldBy.{ToldBy}

@@ -24,7 +24,7 @@ module _ (full : ℕ → Bool) (files : ℕ) where
   pub full_nowhere : ((slot : ℕ) → slot < files → full slot ≡ false) → list_any full (range_with_len 0 files) ≡ false
   full_nowhere none = grind (arith, common_steps, false_from_ne_true, among_from_any, among_range, both_ways)
 
--- ---- where each file is told to be too large by its slot, some file is where some slot is
+-- ---- if the slot of each file shows whether it is too large, some file is too large exactly if some slot is
 module _ (k : Metadata) (sound : AreSound k) (at : ℕ → List ℕ) (s : State) (free : FreeSlotsAreEmpty k) (tells : Tells k at s) (made : State) (full : ℕ → Bool)
     (filed : (slot : ℕ) → full slot ≡ true → IsSome (rec_at k.catalog slot))
     (same : (f : Filed) → Among k.catalog.entries f → nat_lt 128 (length (description made (file_told k.limits k.dict at f))) ≡ full f.slot) where
@@ -55,7 +55,7 @@ module _ (k : Metadata) (sound : AreSound k) (at : ℕ → List ℕ) (s : State)
 pub named_at : (k : Metadata) (numbers : List ℕ) → list_all (λ n. is_some (word_of k.dict n)) numbers ≡ true → (i : ℕ) → i < length numbers → is_some (word_of k.dict (get_or numbers i 0)) ≡ true
 named_at k numbers named i lt = all_among (λ n. is_some (word_of k.dict n)) numbers (get_or numbers i 0) named (among_at numbers i 0 lt)
 
--- numbers gain what others gain that are the same
+-- if some numbers gain a number, more numbers gain it too
 gains_within : (k : Metadata) (some more : List ℕ) → ((n : ℕ) → Among some n → Among more n) → (n : ℕ) → is_gained k some n ≡ true → is_gained k more n ≡ true
 gains_within k some more within n h = let found = among_from_any (λ m. is_entailed k m n) some h in any_from_among (λ m. is_entailed k m n) more found.0 (within found.0 found.1) found.2
 
@@ -157,7 +157,7 @@ module _ {old : Stored} (sound : IsSound old) {s : State} (fits : ToldBy old s) 
             false_from_ne_true (nat_lt 128 (length (description t (file_at f)))) (λ h.
             omega (arith, ltb-true 128 (length (description t (file_at f))) h, ap (λ (ws : List (List ℕ)). length ws) (unmet_same s fits.tells.formed word bare unknown words (file_at f) filed unmet), few))
 
-  -- some description is too large then exactly where a file is crowded
+  -- some description is then too large exactly if a file is crowded
   pub crowded_told : exceeds_words t ≡ has_crowded k (test_of word) numbers
   crowded_told = sym (full_told k sound.metadata fits.kept s sound.free fits.tells t (is_crowded k (test_of word) numbers) (λ slot h.
       by slot (rec_at k.catalog slot) refl (and_parts (is_met_at k (test_of word) slot) (nat_lt 127 (length (wider k (is_gained k numbers) slot))) h).0) same)

@@ -1,4 +1,4 @@
--- A word that may be declared, and what it comes to.
+-- A word that may be declared, and what declaring it gives.
 use Rattle.std.proofs.Common.{eq-eqb}
 use Rattle.lis_store.proofs.Common.{◌≡◌, ◌⊎◌, refl, sym, ap, ap₂, ◌∙◌, subst, inl, inr, ℕ, ◌+◌, ◌≤◌, ◌==◌, nat_lt, not, ◌&&◌, ◌||◌, true, false, if◌then◌else◌, List, [], ◌∷◌, ◌++◌, length, count_by, set, slice_get, Option, Some, None, option_to_list, is_some, IsSome, arith, get_or-set_same, get_or-set_other, Result, list_all, flat_map, unwrap_or, and_parts, or_cases, cases_eq, ne_eqb, not-true, not-false, ltb-false, Among, is_taken, Dict, number_of, word_of, word_from_number, number_from_word, rec_at, has, Formula, FileRecord, AxiomSlot, Pair, is_prop, word_cmp, has_word, is_head, is_plain_word, is_valued, is_built_in, test_of, Refusal, Limits, place_words, with_word, State, declared_under, exceeds_known, exceeds_words, words_at, under, word_exact, word_order, sorted_set_of, among_from_has_word, known_from, Metadata, property_by, is_pair, has_pair, is_filled, AreSound, KeepsInUse, bit_of, is_declared, declared_of, axioms_of, state_of, Tells, some_word, word_among, among_word, among_slot, axioms_counted, IsStrictlySortedBy, sorted_nil, option_map, and_from, both_ways, any_from_among, has_number, are_distinct, set_of, known, all_among, all_from, Left, words_told, among_from_number, number_from_among, one_number, fun_ext, common_steps, declarable_not_valued}
 use Rattle.lis_dict.proofs.Laws.{word_of-with_entry}
@@ -72,11 +72,11 @@ sorted_at place = by (all_conjuncts place)
 pub apart_at : (place : List Formula) → AllApart (words_at place)
 apart_at place = sorted_apart word_cmp word_order (words_at place) (sorted_at place)
 
--- ---- what a state tells of the word
+-- ---- what a state says of the word
 pub declared_told : (k : Metadata) (at : ℕ → List ℕ) (s : State) → Tells k at s → (word : List ℕ) → has_word s.declared word ≡ is_declared k word
 declared_told k at s tells word = ap (λ (x : State). has_word x.declared word) (sym tells.state) ∙ has_declared k word
 
--- no number of these stands twice
+-- no two of these numbers are the same
 pub apart_numbers : (ns : List ℕ) → are_distinct ns ≡ true → AllApart ns
 apart_numbers [] h = tt
 apart_numbers (n ∷ ns) h =
@@ -101,7 +101,7 @@ module _ {p : Metadata} {words : List (List ℕ)} {rights : List ℕ} (sound : A
   pub rights_counted : length rights ≡ length words
   rights_counted = sym (told_counted p sound rights (apart_numbers rights numbers.apart) right_some) ∙ ap length numbers.told
 
-  -- what is asked of them is asked of the words
+  -- the checks on the numbers are those on the words
   room_same : (word : List ℕ) → room_checks p word (length rights) rights ≡ room_checks p word (length words) (numbers_named p.dict words)
   room_same word =
       ap₂ (λ n large. (nat_lt p.limits.props (count_by is_filled p.axioms + n), NoAxiomRoom) ∷ (nat_lt p.limits.props (length p.dict.entries + 1), NoPropertyRoom) ∷ (large, LargeDescription) ∷ [])
@@ -118,7 +118,7 @@ module _ {p : Metadata} {words : List (List ℕ)} {rights : List ℕ} (sound : A
           let right = among_word p sound rights found.0 (subst (λ ws. Among ws found.0) (sym numbers.told) found.2) in
           subst (λ i. Among rights i) (one_number p sound right.0 n found.0 right.1 found.1) (among_from_number rights right.0 right.2)
 
--- ---- what a row says that refuses nothing
+-- ---- what follows if a row refuses nothing
 pub may_be_declared : (k : Metadata) (place : List Formula) (word : List ℕ) (numbers : List ℕ) → AreSound k → is_declarable word ≡ true → AreNumbersOf k (words_at place) numbers → length numbers ≤ 64
     → first_refusal (place_checks k place word) ≡ None → first_refusal (room_checks k word (length numbers) numbers) ≡ None → MayDeclare k word numbers
 may_be_declared k place word numbers sound form are few placed room =
@@ -141,13 +141,13 @@ may_be_declared k place word numbers sound form are few placed room =
       short = few;
     }
 
--- and one that refuses the room
+-- and what follows if a row refuses the room
 pub row_told : (k : Metadata) (place : List Formula) (word : List ℕ) (numbers : List ℕ) → AreSound k → AreNumbersOf k (words_at place) numbers → first_refusal (place_checks k place word) ≡ None
     → {T : Type 0} (result : Result T Refusal) → Judges (room_checks k word (length numbers) numbers) result → Judges (word_checks k place word) result
 row_told k place word numbers sound are placed result judges =
     judges_then (place_checks k place word) (room_checks k word (length (words_at place)) (numbers_named k.dict (words_at place))) result placed (subst (λ checks. Judges checks result) (room_same sound are word) judges)
 
--- ---- the row of `mkdir`, asked of what memory keeps
+-- ---- the row of `mkdir`, by what memory keeps
 module _ {old : Stored} (sound : IsSound old) {s : State} (fits : ToldBy old s) (place : List Formula) (word : List ℕ) (kept : is_property word ≡ true) where
   abbrev k : Metadata
   k = old.metadata
@@ -206,7 +206,7 @@ module _ {old : Stored} (sound : IsSound old) {s : State} (fits : ToldBy old s) 
   all_told : list_all (has_word s.declared) named_here ≡ list_all (is_declared k) named_here
   all_told = ap (λ test. list_all test named_here) (fun_ext (declared_told k fits.kept s tells))
 
-  -- what is asked of the new state is asked of a new word alone, under plain declared named_here
+  -- the checks on the new state are checks on a new word alone, under plain declared words
   pub mkdir_alike : first_refusal (mkdir_checks (record { state = s; place = place }) word t) ≡ first_refusal (word_checks k place word)
   mkdir_alike =
       let told = declared_told k fits.kept s tells word in
@@ -293,7 +293,7 @@ module _ {p q : Metadata} {word : List ℕ} {rights : List ℕ} (sound : AreSoun
   pub marked_then : Marks (1 + length rights) p q
   marked_then = declared_then_marked word p mid q declares rights stands.links
 
-  -- what it tells
+  -- the state that it represents
   pub told_then : (at : ℕ → List ℕ) → state_of q at ≡ declared_under (state_of p at) word words
   told_then at =
       let same : (n : ℕ) → Among rights n → word_of mid.dict n ≡ word_of p.dict n = λ n m.

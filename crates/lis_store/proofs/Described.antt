@@ -1,4 +1,4 @@
--- What a store tells of one file of the state.
+-- What a store says of one file of the state.
 use Rattle.lis_store.proofs.Common.{◌≡◌, ℕ, Option, Some, IsSomeAnd, List, sym, ap, ◌∙◌, subst, find, Among, contains_from_among, among_filter, Filed, slot_of, rec_at, rec_at-slot_of, numbers_at, FileRecord, same_word, Formula, State, File, description, same_word_decides, among_map, file_of, words_told}
 use Rattle.lis_model.specs.Table.{Entry, entry_of, table}
 use Rattle.lis_model.specs.Listing.{holds_all, extension}
@@ -19,7 +19,7 @@ module _ (k : Stored) (s : State) (sound : IsSound k) (fits : ToldBy k s) where
       fits.tells.described f (contains_from_among k.metadata.catalog.entries f there)
       ∙ ap (description s) (sym (file_in_slot k.metadata fits.kept s sound.metadata sound.free fits.tells name slot found.0 is found.1))
 
-  -- and the words of its record are those that the file was given
+  -- and the words of its record are those assigned to the file
   pub tags_told : (name : List ℕ) (slot : ℕ) → slot_of k.metadata.catalog name ≡ Some slot
       → IsSomeAnd (rec_at k.metadata.catalog slot) (λ (rec : FileRecord). words_told k.metadata.dict rec.tags ≡ (file_of s.files name).assigned)
   tags_told name slot is =
@@ -34,7 +34,7 @@ module _ (k : Stored) (s : State) (sound : IsSound k) (fits : ToldBy k s) where
       let at = slot_of_file k.metadata fits.kept s sound.metadata sound.free fits.tells file there in
       file_in_slot k.metadata fits.kept s sound.metadata sound.free fits.tells file.name (at.0).slot (at.0).rec at.1 at.2 ∙ at.3
 
-  -- what a place has of a name is that file
+  -- what a place finds under a name is that file
   pub entry_found : (place : List Formula) (name : List ℕ) (entry : Entry) → find (λ (e : Entry). same_word e.name name) (extension (table s) place) ≡ Some entry
       → entry ≡ entry_at s name
   entry_found place name entry is =

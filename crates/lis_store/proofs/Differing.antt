@@ -1,4 +1,4 @@
--- How many numbers are in one of two sets alone.
+-- How many numbers are in only one of two sets.
 use Rattle.lis_store.proofs.Common.{◌≡◌, refl, ℕ, ◌+◌, ◌≤◌, not, ◌&&◌, Bool, true, false, List, [], length, arith, IsStrictlyIncreasing, nat_cmp_total, nat_cmp, and_parts, members_le, differs, among_where, sorted_where, both_ways, numbers_where, among_from_number}
 use Rattle.std.proofs.lemmas.Map.Keys.{sorted_from_strictly_increasing}
 use Rattle.lis_ext.specs.Numbers.{has_number}

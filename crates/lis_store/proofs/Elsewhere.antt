@@ -1,4 +1,4 @@
--- Blocks that no file has may hold anything: what memory tells of a state and what it has written stay as they are.
+-- Blocks that no file has may hold anything: what memory says of a state and what it has written stay as they are.
 use Rattle.std.proofs.Common.{rules}
 use Rattle.lis_store.proofs.Common.{◌≡◌, refl, ap, inl, inr, ℕ, ◌+◌, ◌<◌, ◌≤◌, true, false, List, length, IsTrue, arith, and_parts, eqb-true, not-true, Among, among_from_contains, contains_from_among, is_taken, has_home, are_free, slot_count, Filed, are_in_range, data_start, State, Metadata, IsWritten, IsSaved, AreSound, bytes_told, blocks_told, state_of, HasIndex, Tells, map_all, filed_rec, among_slots, both_ways, false_from_ne_true, among_from_any, all_among, file_told, number_from_among}
 use Rattle.lis_journal.specs.Images.{IsOutside}
@@ -7,7 +7,7 @@ use Rattle.lis_kept.proofs.Contents.{same_file, slot_counted}
 use Rattle.lis_kept.proofs.InArea.{held_by}
 use Rattle.lis_model.specs.Image.{properties_start}
 
--- a record of memory has as many numbers of blocks as its size asks for
+-- a record of memory has as many block numbers as its size requires
 pub numbers_counted : (k : Metadata) → AreSound k → (f : Filed) → Among k.catalog.entries f → length f.rec.blocks ≡ slot_count f.rec.size
 numbers_counted k sound f m = slot_counted k.limits.version k.dict k.limits.blocks f.rec (sound.records f.slot f.rec (filed_rec k.catalog sound.catalog f m))
 
@@ -16,7 +16,7 @@ abbrev pub AreFilesSame : Metadata → (ℕ → List ℕ) → (ℕ → List ℕ)
 AreFilesSame k at there =
     (f : Filed) → Among k.catalog.entries f → (b : ℕ) → Among (blocks_told k.limits at f.rec) b → there (data_start k.limits + b) ≡ at (data_start k.limits + b)
 
--- ---- what is told
+-- ---- the state that memory represents
 module _ (k : Metadata) (at there : ℕ → List ℕ) (sound : AreSound k) (same : AreFilesSame k at there) where
   pub bytes_there : (f : Filed) → Among k.catalog.entries f → bytes_told k.limits there f.rec ≡ bytes_told k.limits at f.rec
   bytes_there f m = (same_file k.limits f.rec at there (numbers_counted k sound f m) (same f m)).0
@@ -45,15 +45,15 @@ module _ (k : Metadata) (at there : ℕ → List ℕ) (range : IsTrue (are_in_ra
   saved_there saved area n lt unmarked = search (rules, among_slots, held_by)
 
 -- ---- blocks that are free
--- no home before the data blocks is that of one
+-- no home before the data blocks is the home of one of them
 pub no_home_before : (base n : ℕ) (blocks : List ℕ) → n < base → has_home base blocks n ≡ false
 no_home_before base n blocks lt = search (rules, false_from_ne_true, among_from_any, eqb-true)
 
--- a block that is free and one that is taken are two
+-- a free block and a taken one are different
 pub free_apart : (k : Metadata) (blocks : List ℕ) → IsTrue (are_free k.taken blocks) → (b : ℕ) → is_taken k.taken b ≡ true → has_home (data_start k.limits) blocks (data_start k.limits + b) ≡ false
 free_apart k blocks free b taken = search (rules, false_from_ne_true, among_from_any, eqb-true, all_among, and_parts, both_ways, not-true)
 
--- All blocks outside the gates and the records are the same but data blocks that were free.
+-- All blocks outside the gates and the records are the same, except data blocks that were free.
 abbrev pub AreSameBut : Metadata → List ℕ → (ℕ → List ℕ) → (ℕ → List ℕ) → Type 0
 AreSameBut k blocks at there = (n : ℕ) → IsOutside (image_layout k.limits) n → has_home (data_start k.limits) blocks n ≡ false → there n ≡ at n
 

@@ -1,4 +1,4 @@
--- A blank image tells of no words and no files: it stands for the empty state.
+-- A blank image has no words and no files: it represents the empty state.
 use Rattle.std.proofs.Common.{rules}
 use Rattle.lis_store.proofs.Common.{◌≡◌, refl, sym, ap, ◌∙◌, ℕ, zero, suc, ◌+◌, ◌-◌, ◌/◌, ◌<◌, ◌≤◌, ◌≢◌, false, List, [], get_or, take, replicate, slice_get, slice_index, Some, IsTrue, arith, ◌==◌, insert_key, Contains, length-replicate, get_or-replicate, slice_get_within, get_or_from_slice_get, among_from_contains, part, block, is_taken, Dict, IsDict, has, SpellsSuper, AxiomSlot, FreeAxiom, Pair, Limits, are_in_range, bitmap_start, data_start, State, pair_cmp, Metadata, IsWritten, axiom_slots, Properties, Axioms, Bitmap, AreSound, Tells, among_slots, list_any, Meaning, both_ways, Files, Rows}
 use Rattle.std.specs.List.{fold}
@@ -114,7 +114,7 @@ module _ (limits : Limits) (blocks : ℕ) (image : List ℕ) (range : IsTrue (ar
     one_use = λ f g m. absurd (none_contained f m);
   }
 
--- an image that does not begin with an L stands for no state
+-- an image that does not begin with an L represents no state
 pub no_state : (image : List ℕ) (s : State) → slice_index (part 0 1 image) 0 ≢ 76 → Stands image s → ⊥
 unfolding Stands super_with
 no_state image s no_name stands = search (rules, take-take)

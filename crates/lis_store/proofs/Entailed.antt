@@ -41,7 +41,7 @@ out_by true false = refl
 out_by false true = refl
 out_by false false = refl
 
--- the row lost the numbers of all that these words entail
+-- the row without the numbers of all that these words entail
 pub record LeavesOut (k : Metadata) (words : List (List ℕ)) (old row : Rows) : Type 0 where
   pub shape : HasShape row 1 k.limits.props
   pub bits : (n : ℕ) → n < k.limits.props → get row 0 n ≡ (get old 0 n && not (is_one_of (all_up (declared_of k) (axioms_of k) words) (word_of k.dict n)))
@@ -50,7 +50,7 @@ pub leaves_none : (k : Metadata) (row : Rows) → HasShape row 1 k.limits.props 
 leaves_none k row shape = grind (arith, common_steps, out_none, one_of_none)
 
 module _ (k : Metadata) (sound : AreSound k) (t : Taxonomy) (tells : TellsLinks k t) where
-  -- the edges tell what a word entails
+  -- the edges show what a word entails
   pub entails_told : (n : ℕ) (p : List ℕ) → word_of k.dict n ≡ Some p → (m : ℕ) → entails t n m ≡ is_one_of (up (declared_of k) (axioms_of k) p) (word_of k.dict m)
   entails_told n p is m =
       same_tests (entails t n m) (is_one_of (up (declared_of k) (axioms_of k) p) (word_of k.dict m))
@@ -78,11 +78,12 @@ module _ (k : Metadata) (sound : AreSound k) (t : Taxonomy) (tells : TellsLinks 
         ∙ ap (λ b. get old 0 n && not b) (sym (ups_both D A o words (word ∷ []))))));
   }
 
--- ---- what is left over is entailed by none
+-- ---- what remains is entailed by none
 left_over : (x y z : Bool) → not (((true && not x) && not y) && not z) ≡ ((x || y) || z)
 left_over x y z = grind (arith, common_steps)
 
--- the rows in turn: full, without what the first words entail, without what the others do, without what the tests do, and turned over
+-- the rows in sequence: full, without what the first words entail, without what the others entail, without what the tests entail, and
+-- negated
 module _ (k : Metadata) (sound : AreSound k) (some more met : List (List ℕ)) (start full left rest last done : Rows)
     (shape : HasShape start 1 k.limits.props) (is_full : full ≡ with_row start 0 (λ _. true))
     (first : (n : ℕ) → n < k.limits.props → get left 0 n ≡ (get full 0 n && not (is_one_of (all_up (declared_of k) (axioms_of k) some) (word_of k.dict n))))

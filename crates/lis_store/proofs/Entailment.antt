@@ -1,4 +1,4 @@
--- What a word with a number entails has a number, and the files that have the one have the other.
+-- What a word with a number entails has a number too, and the files that have the word's number have that number.
 use Rattle.lis_store.proofs.Common.{◌≡◌, ℕ, zero, suc, true, List, Some, ap, ◌∙◌, subst, Among, word_of, has, up, entails_from_up, Metadata, AreSound, declared_of, axioms_of, links, one_number, Chain}
 use Rattle.lis_kept.proofs.Entailed.{link_numbered, chain_has_number}
 use Rattle.lis_store.specs.Stored.{AreClosed}

@@ -1,4 +1,4 @@
--- The blocks of a file: how many they are, and which of them have its content.
+-- The blocks of a file: how many there are, and which of them have its content.
 use Rattle.lis_store.proofs.Common.{common_steps, ◌≡◌, ◌∙◌, ℕ, ◌≤◌, List, length, cond-false, Among, among_left, content_blocks, small_size, Filed, FileRecord, Limits, data_start, file_limit, blocks_taken, Metadata, AreSound, blocks_told}
 use native.Mathlib.Omega.{arith}
 use Rattle.lis_content.proofs.Files.{length-file_blocks}
@@ -14,7 +14,7 @@ content_told limits at rec = content_blocks (data_start limits) rec.blocks rec.s
 pub content_among : (limits : Limits) (at : ℕ → List ℕ) (rec : FileRecord) (b : ℕ) → Among (content_told limits at rec) b → Among (blocks_told limits at rec) b
 content_among limits at rec b of = grind (arith, common_steps, large_blocks, among_left, large_numbers, small_numbers, small_blocks)
 
--- the block that numbers them counts in version 2 alone, where files may have as many
+-- the index block counts in version 2 alone, where files may have that many blocks
 pub taken_by_version : (version size : ℕ) → size ≤ file_limit version → blocks_taken 2 size ≡ blocks_taken version size
 taken_by_version version size few = grind (arith, common_steps, cond-false, small_size)
 
@@ -22,7 +22,7 @@ module _ (k : Metadata) (sound : AreSound k) (f : Filed) (m : Among k.catalog.en
   pub content_counted : length (content_told k.limits at f.rec) ≡ blocks_needed f.rec.size
   content_counted = grind (arith, common_steps, large_numbers, length-numbers_in, small_numbers, numbers_counted, cond-false)
 
-  -- a file takes as many blocks as it has
+  -- a file takes as many blocks as it has, its index block among them
   pub told_counted : length (blocks_told k.limits at f.rec) ≡ blocks_taken k.limits.version f.rec.size
   told_counted =
       length-file_blocks (data_start k.limits) f.rec.blocks f.rec.size at (numbers_counted k sound f m)

@@ -1,4 +1,4 @@
--- The call that gives a file another name: its bytes are read before it judges.
+-- The call that renames a file: its bytes are read before it is judged.
 use Rattle.lis_store.proofs.Common.{◌≡◌, refl, sym, ap, ◌∙◌, subst, ℕ, nat_lt, true, false, List, length, cond, is_some, Option, Some, None, Result, Err, IsSomeAnd, lt-ltb, looked, Filed, slot_of, rec_at, Asks, FileRecord, Formula, is_file_name, derived_words, new_file, State, File, Metadata, bytes_told, blocks_told, filed_at_slot, Meaning, Fits, Refusal, NameTaken, Situation, Outcome, refused, rename, file_of, all_from, words_told}
 use Rattle.lis_store.specs.declared.change_fault.ChangeFault.{ChangeFault}
 use Rattle.lis_store.specs.declared.change_fault.ChangeFault.TheVariants.{Refused, Disk}
@@ -21,7 +21,7 @@ use Rattle.lis_store.proofs.WriteFile.{found_there, rest_of_rename, rename_first
 use Rattle.lis_model.specs.Step.{first_refusal}
 
 module _ (k : Stored) (base : State) (before mid : Meaning) (now : Situation) (sound : IsSound k) (holds : StoreHolds k before base now.state) (asks : Asks k.journal before mid) where
-  -- memory tells as before, by the same blocks
+  -- memory represents the same by the same blocks
   abbrev pub held_read : StoreHolds k mid base now.state
   held_read = record {
     kept = holds.kept;
@@ -33,7 +33,7 @@ module _ (k : Stored) (base : State) (before mid : Meaning) (now : Situation) (s
     written = holds.written;
   }
 
-  -- what comes after the read is what the call comes to
+  -- what holds from after the read on holds of the whole call
   pub after_read : {T : Type 0} (outcome : Outcome) (new : Stored) (after : Meaning) (result : Result T ChangeFault) → Holds base now outcome new mid after result → Holds base now outcome new before after result
   after_read outcome new after result =
       holds_behind base now outcome new before mid after result (asks_stand k base now.state before sound holds mid asks) (asks_past k base now.state before sound holds mid asks)
@@ -46,7 +46,7 @@ module _ (k : Stored) (base : State) (before mid : Meaning) (now : Situation) (s
       holds_lost base now outcome new before mid result (asks_stand k base now.state before sound holds mid asks) (asks_past k base now.state before sound holds mid asks)
 
 -- ---- a file that is here
--- What a call asks speaks of the store's value `now`, and what is proved of its metadata, `old`.
+-- What a call requires is about the store's value `now`, and what is proved is about its metadata, `old`.
 module _ {old now : Stored} (same : old ≡ now) (sound : IsSound old) (place : List Formula) (name : List ℕ) {slot : ℕ} (named_now : slot_of now.metadata.catalog name ≡ Some slot)
     (here_now : true ≡ is_among now.metadata place name) (other : List ℕ) where
   abbrev k : Metadata
@@ -64,7 +64,7 @@ module _ {old now : Stored} (same : old ≡ now) (sound : IsSound old) (place : 
   here : is_among k place name ≡ true
   here = ap (λ (o : Stored). is_among o.metadata place name) same ∙ sym here_now
 
-  -- what is asked of memory in which the file is to have another name, and the bytes that were read
+  -- what is required of memory in which the file gets another name, and of the bytes that were read
   pub rename_asks : {judged read bytes : List ℕ} → judged ≡ read → bytes ≡ read → ((r : FileRecord) → rec_at k.catalog slot ≡ Some r → length read ≡ r.size) → {words : List (List ℕ)} → is_file_name other ≡ true
       → ((r : FileRecord) → rec_at k.catalog slot ≡ Some r → words ≡ words_told k.dict r.tags)
       → ((r : FileRecord) → rec_at k.catalog slot ≡ Some r → first_refusal (renaming_checks k slot (given_before k r other judged)) ≡ None)

@@ -34,7 +34,7 @@ module _ (k : Metadata) (sound : AreSound k) where
       by true e = e
       by false e = absurd (both_ways (is_test w) (undeclared_not_test w (formed e)) test)
 
-  -- no file is given a test
+  -- no test is assigned to a file
   pub assigned_no_test : (words : List (List ℕ)) → list_all (is_assignable D) words ≡ true → (w : List ℕ) → Among words w → is_test w ≡ false
   assigned_no_test words given w m = by (assignable_cases D w (all_among (is_assignable D) words w given m))
     where
@@ -74,7 +74,7 @@ module _ (k : Metadata) (sound : AreSound k) where
         (among_right (draft.assigned ++ draft.own) tests w (filter_among (λ x. is_met (test_of x) draft.size) D w (declared_word k sound n w is (test_flagged n w is test)) met))
         (up_self D A w)))
 
--- what is declared has the word that it had, with more words
+-- a declared number has the word that it had, when words are added
 pub flagged_before : (p : Metadata) → AreSound p → (d : Dict) → ((n : ℕ) (w : List ℕ) → word_of p.dict n ≡ Some w → word_of d n ≡ Some w)
     → (n : ℕ) (w : List ℕ) → is_taken p.declared n ≡ true → word_of d n ≡ Some w → word_of p.dict n ≡ Some w
 flagged_before p sound d keeps n w bit is = let word = some_word (word_of p.dict n) (sound.flagged n bit) in word.1 ∙ (sym (keeps n word.0 word.1) ∙ is)
@@ -85,7 +85,7 @@ pub tested_word : (o : Option (List ℕ)) → is_some (test_by o) ≡ true → (
 tested_word None test = absurd (both_ways false refl test)
 tested_word (Some w) test = (w, refl, test)
 
--- where the files of a slot and the words of tests are those that were there, and descriptions have the tests that they had
+-- tests stay met, if the records of slots and the words of tests were there before and descriptions have the tests that they had
 pub tests_stay : (p q : Metadata) → ((at : ℕ) (rec : FileRecord) → rec_at q.catalog at ≡ Some rec → rec_at p.catalog at ≡ Some rec)
     → ((n : ℕ) (w : List ℕ) → word_of q.dict n ≡ Some w → is_test w ≡ true → word_of p.dict n ≡ Some w)
     → ((n at : ℕ) (rec : FileRecord) (w : List ℕ) → rec_at q.catalog at ≡ Some rec → word_of p.dict n ≡ Some w → is_test w ≡ true → has q.ext n at ≡ has p.ext n at)

@@ -30,7 +30,7 @@ module _ (k : Metadata) (sound : AreSound k) (place : List Formula) (name : List
   pub none_here : slot_of k.catalog name ≡ None → is_among k place name ≡ false
   none_here none = grind (arith, common_steps, false_from_ne_true, found_here, filed_slot)
 
-  -- the file of the name is in the place where that holds of it
+  -- the file of the name is in the place exactly if the test of the place holds of its slot
   pub named_here : (slot : ℕ) (test : ℕ → Bool) → slot_of k.catalog name ≡ Some slot → TellsTest (seen_of k) test (holds_all place) → is_among k place name ≡ test slot
   named_here slot test is_slot tells =
       let found = rec_at-slot_of k.catalog name slot sound.catalog is_slot in
@@ -58,7 +58,7 @@ module _ (k : Metadata) (sound : AreSound k) (place : List Formula) (name : List
               let make : ℕ → FileRecord → Filed = λ slot rec. record { slot = slot; rec = rec } in
               ap (λ (x : Filed). holds_all place (entry x)) (ap₂ make slots recs)
 
--- ---- what a view asks of a file
+-- ---- what a view finds by a name
 pub slot_seen : (k : Metadata) (name : List ℕ) (fs : List Filed)
     → option_map (λ (f : Placed). f.slot) (find (λ (f : Placed). same_word f.entry.name name) (map (placed k) fs)) ≡ option_map (λ (f : Filed). f.slot) (find (λ (f : Filed). same_word f.rec.name name) fs)
 slot_seen k name [] = refl
@@ -83,6 +83,6 @@ size_seen k slot rec size (f ∷ fs) is sized = by (f.slot == slot) is (λ e. si
     by true e rest = sized ∙ ap (λ (r : FileRecord). r.size) (sym (same_Some f.rec rec e))
     by false e rest = rest e
 
--- the slot of a name is one of the limits
+-- the slot of a name is below the limit
 pub slot_in : (k : Metadata) → AreSound k → (name : List ℕ) (slot : ℕ) → slot_of k.catalog name ≡ Some slot → slot < k.limits.files
 slot_in k sound name slot is = let found = rec_at-slot_of k.catalog name slot sound.catalog is in file_slot_below k sound slot found.0 found.1

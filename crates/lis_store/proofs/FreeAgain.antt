@@ -1,4 +1,4 @@
--- How many blocks are free where some are given back.
+-- How many blocks are free after some are freed.
 use Rattle.lis_store.proofs.Common.{rules, ◌≡◌, refl, ap, ◌∙◌, subst, inl, inr, ℕ, ◌+◌, ◌≤◌, not, Bool, true, false, cond, List, [], ◌∷◌, length, filter, set, Option, Some, IsSome, arith, get_or-set_other, and_parts, cases_lt, cond-false, eqb-true, ne_eqb, not-true, or_cases, sum_by-set, Among, Meaning, Held, is_taken, free_count, is_large, small_size, rec_at, FileRecord, Limits, are_in_range, file_limit, blocks_taken, Metadata, AreSound, record_in_form, both_ways, given, has_number, are_distinct, GivesBack, number_from_among}
 use Rattle.std.proofs.lemmas.List.{set_past}
 use Rattle.lis_content.proofs.Numbers.{below_if_taken}
@@ -6,11 +6,11 @@ use Rattle.lis_kept.proofs.Dropped.{blocks_apart}
 use Rattle.lis_laws.proofs.Locals.{filter_same}
 use Rattle.lis_store.specs.Instead.{free_instead}
 
--- one that was taken is free then
+-- if a block was taken, one more is free
 one_more_free : (taken : List Bool) (n : ℕ) → is_taken taken n ≡ true → free_count (set taken n false) ≡ free_count taken + 1
 one_more_free taken n is = search (rules, sum_by-set, below_if_taken)
 
--- and where it was not, as many are
+-- and if it was not, as many are free as before
 as_many_free : (taken : List Bool) (n : ℕ) → is_taken taken n ≡ false → free_count (set taken n false) ≡ free_count taken
 as_many_free taken n is = search (rules, cases_lt, sum_by-set, set_past)
 
@@ -29,7 +29,7 @@ free_given taken (b ∷ ns) apart =
     by true is rest same = omega (arith, rest, same, one_more_free taken b is)
     by false is rest same = omega (arith, rest, same, as_many_free taken b is)
 
--- where each passes a test, all are left
+-- if each number passes a test, the filter keeps all of them
 pub all_pass_filter : (test : ℕ → Bool) (ns : List ℕ) → ((n : ℕ) → Among ns n → test n ≡ true) → filter test ns ≡ ns
 all_pass_filter test [] each = refl
 all_pass_filter test (n ∷ ns) each =
@@ -40,7 +40,7 @@ all_pass_filter test (n ∷ ns) each =
 pub first_version : (limits : Limits) → are_in_range limits ≡ true → (limits.version ≡ 2 → ⊥) → limits.version ≡ 1
 first_version limits range not_two = search (rules, and_parts, or_cases, eqb-true)
 
--- ---- a file whose blocks are given back
+-- ---- a file whose blocks are freed
 pub rec_some : (o : Option FileRecord) → IsSome o → (rec : FileRecord) × (o ≡ Some rec)
 rec_some o some = search (rules)
 

@@ -8,7 +8,7 @@ use Rattle.lis_store.proofs.FileBlocks.{told_counted}
 use Rattle.lis_store.proofs.Marks.{marks_are}
 use Rattle.lis_store.proofs.Spelled.{used, used_once, told_below}
 
--- ---- blocks that are taken are free no more
+-- ---- after a block is taken, one block fewer is free
 one_fewer : (taken : List Bool) (n : ℕ) → n < length taken → is_taken taken n ≡ false → free_count (set taken n true) + 1 ≡ free_count taken
 one_fewer taken n lt free = search (rules, sum_by-set)
 
@@ -71,7 +71,7 @@ module _ (k : Stored) (s : State) (sound : IsSound k) (fits : ToldBy k s) where
       ap (λ (fs : List File). sum (map (λ (file : File). blocks_taken s.limits.version (length file.bytes)) fs)) (sym (files_told k.metadata fits.kept s sound.metadata sound.free fits.tells))
       ∙ all_take k.metadata.catalog.entries (λ f there. there)
 
-  -- ---- and those are the taken ones
+  -- ---- and these blocks are the taken ones
   marks_told : k.metadata.taken ≡ marked (replicate k.metadata.limits.blocks false) taken_blocks
   marks_told = marks_are k.metadata.taken taken_blocks k.metadata.limits.blocks sound.metadata.blocks (λ n lt.
       same_tests (is_taken k.metadata.taken n) (has_number taken_blocks n)

@@ -1,4 +1,4 @@
--- Words that are gathered one after another: the numbers of what those with numbers entail, and those without.
+-- Words that are gathered one after another: the numbers of what the words with numbers entail, and the words without.
 use Rattle.std.proofs.Common.{rules}
 use Rattle.lis_store.proofs.Common.{◌≡◌, refl, sym, ap, ◌∙◌, subst, ℕ, ◌+◌, ◌*◌, ◌<◌, ◌≤◌, Bool, true, false, not, ◌&&◌, ◌||◌, cond, if◌then◌else◌, is_some, is_none, Option, Some, None, List, [], ◌∷◌, ◌++◌, length, take, get_or, arith, length-append, or-false, list_any-append, HasShape, get, number_of, word_of, number_from_word, number_below, Taxonomy, same_word, has_word, is_valued, head_bytes, same_word_decides, heads, all_up, Metadata, AreSound, TellsLinks, declared_of, axioms_of, false_from_ne_true}
 use Rattle.std.proofs.lemmas.List.Elements.{filter-append}
@@ -47,7 +47,7 @@ module _ (k : Metadata) where
   }
 
   module _ (word : List ℕ) where
-    -- its number stands for the other word, if they are one
+    -- if the other word is the same, it has the same number
     same_number : (w : List ℕ) (o : Option ℕ) → same_word word w ≡ true → number_of k.dict word ≡ o → number_of k.dict w ≡ o
     same_number w o same is = ap (number_of k.dict) (sym ((same_word_decides word w).0 same)) ∙ is
 

@@ -1,4 +1,4 @@
--- Blocks that are given back.
+-- Blocks that are freed.
 use Rattle.lis_store.proofs.Common.{◌≡◌, ◌⊎◌, sym, ap, ◌∙◌, subst, inl, inr, ℕ, ◌<◌, ◌≤◌, ◌==◌, not, ◌&&◌, ◌||◌, Bool, false, List, [], ◌∷◌, length, get_or, set, get_or-set_same, get_or-set_other, cases_eq, cases_lt, ne_eqb, get_or_past, is_taken, eq-eqb, given, has_number, and-true}
 use Rattle.std.proofs.lemmas.Bool.{and_right}
 use Rattle.std.proofs.lemmas.List.{set_past}

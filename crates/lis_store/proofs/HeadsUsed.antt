@@ -21,7 +21,7 @@ used_for k n used = by (or_cases (is_taken k.declared n || is_had k.ext n) (is_n
     by (inl either) = first (or_cases (is_taken k.declared n) (is_had k.ext n) either)
     by (inr left) = NamedLeft left
 
--- so it stays where these do
+-- so a number stays in use if these stay
 pub use_stays : (k m : Metadata) (n : ℕ) → (is_taken k.declared n ≡ true → is_taken m.declared n ≡ true) → (is_named_left k n ≡ true → is_named_left m n ≡ true)
     → ((slot : ℕ) → has k.ext n slot ≡ true → is_used m n ≡ true) → is_used k n ≡ true → is_used m n ≡ true
 use_stays k m n bits lefts had used = search (rules, used_for, used_flagged, used_left)

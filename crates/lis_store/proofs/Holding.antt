@@ -1,4 +1,4 @@
--- A store at which nothing is held back, and one at which changes are; and a change that is held back and then committed.
+-- A store that holds nothing back, and one that holds changes back; and a change that is held back and then committed.
 use Rattle.lis_store.proofs.Common.{◌≡◌, ◌⊎◌, refl, sym, ap, ◌∙◌, subst, inl, inr, ℕ, true, false, List, [], Result, Ok, Err, Meaning, looked, KeepsPast, image_blocks, State, Situation, Outcome, IsWritten, Tells, leaves_weaken, leaves_then, HomeBlock}
 use Rattle.lis_store.specs.declared.change_fault.ChangeFault.{ChangeFault}
 use Rattle.lis_store.specs.declared.change_fault.ChangeFault.TheVariants.{Refused, Disk}
@@ -21,7 +21,7 @@ fits_held k m s sound fits = record {
   written = subst (λ (es : List HomeBlock). IsWritten k.metadata (looked es fits.kept)) (sym fits.settled) fits.written;
 }
 
--- and one where nothing is staged fits
+-- and one with nothing staged fits
 abbrev pub held_fits : (k : Stored) (m : Meaning) (base s : State) → k.journal.staged ≡ [] → StoreHolds k m base s → StoreFits k m s
 held_fits k m base s settled holds = record {
   kept = holds.kept;
@@ -37,7 +37,7 @@ one_of_two (inl (inl a)) = inl a
 one_of_two (inl (inr a)) = inl a
 one_of_two (inr b) = inr b
 
--- ---- a store that held back nothing, where a change was made and committed
+-- ---- a change that is made and committed on a store that holds nothing back
 module _ {T : Type 0} {now : Situation} {outcome : Outcome} {old new : Stored} {before after : Meaning} {result : Result T ChangeFault} (fits : StoreFits old before now.state) (left : ChangeLeft old new result)
     (applies : Applies now.state now outcome new before after result) where
   ended_by : (r : Result T ChangeFault) → ChangeLeft old new r → AppliedEnded now.state now outcome new after r → ChangeEnded now outcome new after r
@@ -52,7 +52,7 @@ module _ {T : Type 0} {now : Situation} {outcome : Outcome} {old new : Stored} {
     ended = ended_by result left applies.ended;
   }
 
--- ---- a change that is held back, and a commit after it where there is one
+-- ---- a change that is held back, and the commit after it, if there is one
 pub applies_ended : {T : Type 0} {base : State} {now : Situation} {outcome : Outcome} {new : Stored} {before after : Meaning} {change : ChangeFault} {held result : Result T ChangeFault} → held ≡ Err change → result ≡ Err change
     → Holds base now outcome new before after held → Applies base now outcome new before after result
 applies_ended {T} {base} {now} {outcome} {new} {before} {after} {change} {held} {result} was ends holds = record {

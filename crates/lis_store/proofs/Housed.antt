@@ -1,4 +1,4 @@
--- The blocks of a file that comes into the place of another.
+-- The blocks of a file that replaces another.
 use Rattle.std.proofs.Common.{rules}
 use Rattle.lis_store.proofs.Common.{None, Some, ◌≡◌, refl, sym, ap, ◌∙◌, ℕ, ◌+◌, ◌<◌, nat_lt, not, ◌&&◌, ◌||◌, Bool, true, false, List, [], length, IsTrue, arith, and_parts, ltb-true, not-true, Among, contains_from_among, is_taken, are_free, has_home, Filed, Limits, data_start, State, Metadata, AreSound, bytes_told, blocks_told, Tells, both_ways, false_from_ne_true, given, marked, are_distinct, has_number, all_among, among_from_number, number_from_among, and-true, common_steps}
 use Rattle.lis_content.specs.Placing.{HasFile}
@@ -11,8 +11,8 @@ use Rattle.lis_store.proofs.Elsewhere.{numbers_counted}
 use Rattle.lis_store.proofs.Given.{given_taken}
 use Rattle.lis_store.proofs.Marks.{taken_after}
 
--- They were free or the other file's, and hold the bytes, which the numbers tell; all others hold what they held. Then they are taken, and
--- so is what was taken for files that stay.
+-- They were free or the other file's, and hold the bytes, as the numbers show; all other blocks hold what they held. Afterwards they are
+-- taken, and so is what was taken for files that stay.
 pub record IsHoused (limits : Limits) (taken now : List Bool) (old blocks bytes numbers : List ℕ) (at there : ℕ → List ℕ) : Type 0 where
   pub below : (n : ℕ) → has_number blocks n ≡ true → n < limits.blocks
   pub vacant : (n : ℕ) → has_number blocks n ≡ true → is_taken taken n ≡ true → has_number old n ≡ true
@@ -28,15 +28,15 @@ free_number taken blocks n free has =
     (all_among (λ i. nat_lt i (length taken) && not (is_taken taken i)) blocks n free (among_from_number blocks n has)) in
     (ltb-true n (length taken) one.0, not-true (is_taken taken n) one.1)
 
--- the same once those of the other file are given back
+-- the same after the blocks of the other file are freed
 pub housed_given : {limits : Limits} {taken now : List Bool} {old blocks bytes numbers : List ℕ} {at there : ℕ → List ℕ} → IsHoused limits taken now old blocks bytes numbers at there
     → IsHoused limits (given taken old) now [] blocks bytes numbers at there
 housed_given {limits} {taken} {now} {old} {blocks} housed = grind (arith, common_steps, and_parts, given_taken, both_ways, and-true)
 
--- ---- bytes that come into other blocks
+-- ---- bytes that are put into other blocks
 module _ (limits : Limits) (taken mid now : List Bool) (old blocks bytes numbers : List ℕ) (at there : ℕ → List ℕ) (len : length taken ≡ limits.blocks) (distinct : are_distinct blocks ≡ true)
     (holds : HasFile (data_start limits) bytes numbers blocks there) (same : (n : ℕ) → has_home (data_start limits) blocks n ≡ false → there n ≡ at n) where
-  -- once those of the other file are given back
+  -- if the blocks of the other file are freed first
   pub given_first : mid ≡ given taken old → are_free mid blocks ≡ true → now ≡ marked mid blocks → IsHoused limits taken now old blocks bytes numbers at there
   given_first gave free marks = record {
     below = λ n has. omega (arith, (free_number mid blocks n free has).0, mid_len, len);
@@ -53,7 +53,7 @@ module _ (limits : Limits) (taken mid now : List Bool) (old blocks bytes numbers
       mid_len : length mid ≡ length taken
       mid_len = ap length gave ∙ length-given taken old
 
-      -- what was taken and is none of the other file's still is
+      -- what was taken, and is not the other file's, still is
       not_given : (n : ℕ) → is_taken taken n ≡ true → is_taken mid n ≡ not (has_number old n)
       not_given n was = ap (λ ts. is_taken ts n) gave ∙ (given_taken taken old n ∙ ap (λ t. t && not (has_number old n)) was)
 
@@ -61,7 +61,7 @@ module _ (limits : Limits) (taken mid now : List Bool) (old blocks bytes numbers
       by true is = refl
       by false is = absurd (both_ways true is refl)
 
-  -- before they are
+  -- if they are freed last
   pub given_last : are_free taken blocks ≡ true → ((n : ℕ) → has_number old n ≡ true → is_taken taken n ≡ true) → mid ≡ marked taken blocks → now ≡ given mid old
       → IsHoused limits taken now old blocks bytes numbers at there
   given_last free held marked_then gave = record {
@@ -99,7 +99,7 @@ module _ (k : Metadata) (at : ℕ → List ℕ) (s : State) (tells : Tells k at 
   pub stay_housed : IsHoused k.limits k.taken k.taken held held bytes f.rec.blocks at at
   stay_housed = search (rules, given_here, contains_from_among, both_ways)
 
--- ---- blocks that are traded
+-- ---- blocks that are freed and taken
 module _ (k : Metadata) (sound : AreSound k) (at there : ℕ → List ℕ) (s : State) (tells : Tells k at s) (f : Filed) (m : Among k.catalog.entries f) (now : List Bool) (blocks bytes numbers : List ℕ) (distinct : are_distinct blocks ≡ true)
     (holds : HasFile (data_start k.limits) bytes numbers blocks there) (same : (n : ℕ) → has_home (data_start k.limits) blocks n ≡ false → there n ≡ at n) where
   abbrev old : List ℕ
@@ -108,7 +108,7 @@ module _ (k : Metadata) (sound : AreSound k) (at there : ℕ → List ℕ) (s : 
   old_taken : (n : ℕ) → has_number old n ≡ true → is_taken k.taken n ≡ true
   old_taken n has = (tells.given f (contains_from_among k.catalog.entries f m) n has).1
 
-  -- where the new blocks were free, the blocks of the file are what they were
+  -- if the new blocks were free, the blocks of the file are what they were
   old_stays : are_free k.taken blocks ≡ true → blocks_told k.limits there f.rec ≡ old
   old_stays free =
       (same_file k.limits f.rec at there (numbers_counted k sound f m) (λ b among.
@@ -121,7 +121,7 @@ module _ (k : Metadata) (sound : AreSound k) (at there : ℕ → List ℕ) (s : 
   trades_housed (Last free gave) =
       given_last k.limits k.taken (marked k.taken blocks) now old blocks bytes numbers at there sound.blocks distinct holds same free old_taken refl (gave ∙ ap (given (marked k.taken blocks)) (old_stays free))
 
--- and where no file makes way
+-- and if no file is replaced
 pub alone_housed : (limits : Limits) (taken now : List Bool) (blocks bytes numbers : List ℕ) (at there : ℕ → List ℕ) → length taken ≡ limits.blocks → are_distinct blocks ≡ true
     → HasFile (data_start limits) bytes numbers blocks there → ((n : ℕ) → has_home (data_start limits) blocks n ≡ false → there n ≡ at n)
     → Trades limits None taken now blocks at there → IsHoused limits taken now [] blocks bytes numbers at there

@@ -1,4 +1,5 @@
--- The words in use without a file are those that are known where it is gone; so those known with another in its place are told by memory.
+-- The words in use without a file are those that are known after it is removed. So memory shows the words that are known if another file
+-- replaces it.
 use Rattle.std.proofs.Common.{rules}
 use Rattle.std.proofs.Common.{eq-eqb}
 use Rattle.lis_store.proofs.Common.{◌≡◌, ◌⊎◌, refl, sym, ap, ap₂, ◌∙◌, subst, inl, inr, ℕ, ◌||◌, ◌&&◌, not, Bool, true, false, cond, Option, Some, None, List, [], ◌∷◌, map, filter, list_any, IsStrictlySortedBy, and_parts, or_cases, not-true, not_from_false, eqb-true, IsStrictlySortedBy-filter, same_Some, Among, contains_from_among, among_filter, filter_among, is_rising, sorted_from_rising, is_taken, number_of, word_of, number_from_word, word_from_number, Filed, slot_of, rec_at, has, numbers_at, FileRecord, AxiomSlot, FreeAxiom, Pair, word_cmp, same_word, is_valued, head_bytes, State, File, description, heads, file_removed, word_order, same_word_decides, among_heads, sorted_known, known_from, Metadata, AreSound, FreeSlotsAreEmpty, bit_of, is_declared, state_of, is_left_of, is_head_by, is_left_head_of, is_had, is_named_left, is_used, Tells, filed_rec, filed_slot, filed_at_slot, some_word, among_place, some_number, word_among, among_word, known_word, declared_word, among_axiom, left_out, emptied, and_from, or_left, or_right, both_ways, false_from_ne_true, among_from_any, any_from_among, among_map, map_among, words, known, same_words, Left, file_told}
@@ -29,7 +30,7 @@ passes t None = false
 passes t (Some n) = t n
 
 module _ (k : Metadata) (sound : AreSound k) (slot : ℕ) where
-  -- a word in use without the slot
+  -- a word that is in use without the slot
   abbrev pub stays : List ℕ → Bool
   stays w = passes (is_used (emptied k slot)) (number_of k.dict w)
 

@@ -1,4 +1,4 @@
--- Where what words are refused for refuses nothing, a file may come into the place of another.
+-- If the words of a file are refused for nothing, it may replace another.
 use Rattle.std.proofs.Common.{rules}
 use Rattle.lis_store.proofs.Common.{◌≡◌, ◌≢◌, sym, ap, subst, ℕ, ◌≤◌, Bool, true, option_to_list, Some, None, List, ◌++◌, length, arith, flat_map, list_all, ltb-false, not-false, is_rising, Among, Filed, slot_of, rec_at, word_of, FileRecord, word_cmp, is_built_in, is_file_name, Refusal, State, File, is_assignable, file_limit, word_order, sorted_set_of, rising_from_sorted, Metadata, declared_of, Tells, filed_at_slot, record_in_form, all_among, words_told, file_told}
 use Rattle.lis_store.specs.Stored.{Stored, IsSound}
@@ -23,7 +23,7 @@ module _ (k : Stored) (sound : IsSound k) (slot : ℕ) (rec : FileRecord) (is_re
   there : Among p.catalog.entries filed
   there = filed_at_slot p.catalog sound.metadata.catalog slot rec is_rec
 
-  -- ---- the words that it was given
+  -- ---- the words that were assigned to it
   pub given_set : is_rising word_cmp given ≡ true
   given_set = rising_from_sorted word_cmp word_order given (sorted_set_of (flat_map (λ n. option_to_list (word_of p.dict n)) rec.tags))
 
@@ -32,7 +32,7 @@ module _ (k : Stored) (sound : IsSound k) (slot : ℕ) (rec : FileRecord) (is_re
       let few = few_tags rec.tags (record_in_form p.limits.version p.dict p.limits.blocks rec (sound.metadata.records slot rec is_rec)).tags in
       omega (arith, few, told_few p.dict rec.tags)
 
-  -- A state that is told says that they may be given.
+  -- These words are assignable, since memory represents a state.
   pub given_assignable : (at : ℕ → List ℕ) (s : State) → Tells p at s → list_all (is_assignable (declared_of p)) given ≡ true
   given_assignable at s tells =
       let m = file_of_filed p at s sound.metadata sound.free tells filed there in

@@ -1,4 +1,4 @@
--- The rows of `write` and `rename`, told by what a store keeps, are the rows of the state.
+-- The rows of `write` and `rename`: by what a store keeps they are the rows of the state.
 use Rattle.lis_store.proofs.Common.{◌≡◌, refl, sym, ap, ap₂, ◌∙◌, ℕ, ◌+◌, ◌==◌, nat_lt, Bool, true, false, not, cond, is_some, Some, None, List, [], ◌∷◌, ◌++◌, length, filter, arith, list_all, cond-false, not-false, free_count, is_taken, small_size, Filed, slot_of, rec_at, FileRecord, Among, contains_from_among, among_filter, Formula, same_word, Limits, Refusal, UnknownProperty, NameTaken, NoFileHere, LargeFile, NoSpace, data_start, State, File, is_assignable, file_limit, blocks_taken, has_name, derived_words, new_file, file_removed, file_replaced, Situation, Payload, refused, free_blocks, write, rename, file_of_name, Metadata, declared_of, bytes_told, blocks_told, record_in_form, filed_at_slot, file_of, changed, words_told, number_from_among}
 use Rattle.lis_content.proofs.Indexes.{small_blocks}
 use Rattle.lis_model.specs.Step.{blocks_for, is_here, room_checks, write_checks, rename_checks, first_refusal}
@@ -19,7 +19,7 @@ use Rattle.lis_store.proofs.InsteadKnown.{rest_known}
 use Rattle.lis_store.proofs.Admitted.{limits_are, free_are, words_row}
 use Rattle.lis_store.proofs.Judged.{same_behind, judged_refused, judged_done}
 
--- ---- a file in the place of another
+-- ---- a file instead of another
 module _ (k : Stored) (s : State) (sound : IsSound k) (fits : ToldBy k s) (name : List ℕ) (slot : ℕ) (rec : FileRecord)
     (is_slot : slot_of k.metadata.catalog name ≡ Some slot) (is_rec : rec_at k.metadata.catalog slot ≡ Some rec) where
   abbrev p : Metadata
@@ -82,14 +82,14 @@ module _ (k : Stored) (s : State) (sound : IsSound k) (fits : ToldBy k s) (place
   abbrev There : Type 0
   There = (slot_of kept.catalog name ≡ Some slot) × (rec_at kept.catalog slot ≡ Some rec)
 
-  -- what stands behind the question whether the file is here
+  -- what follows the check whether the file is here
   pub here_row : (checks others : List (Bool × Refusal)) → (There → first_refusal checks ≡ first_refusal others)
       → first_refusal ((not (is_among kept place name), NoFileHere) ∷ checks) ≡ first_refusal ((not (is_here now old.name), NoFileHere) ∷ others)
   here_row checks others same =
       same_behind ((not (is_among kept place name), NoFileHere) ∷ []) checks others (λ here. same (there (not-false (is_among kept place name) here.0)))
       ∙ ap (λ b. cond (not b) (Some NoFileHere) (first_refusal others)) (among_told k s sound fits place name)
 
-  -- The words of a told file may be given, so the check of memory refuses nothing.
+  -- The words of a file of a state are assignable, so the check on memory refuses nothing.
   pub instead_row : There → (file : File) (own : List (List ℕ)) → AreOwnWords s.declared s.axioms own file → (made : State) → file_replaced s name file ≡ made → has_name (file_removed s name).files file.name ≡ false
       → list_all (is_assignable (declared_of kept)) file.assigned ≡ true → (checks others : List (Bool × Refusal)) → first_refusal checks ≡ first_refusal others
       → first_refusal (instead_checks kept slot (with_own file own) ++ checks) ≡ first_refusal (room_checks made ++ others)
@@ -130,7 +130,7 @@ module _ (k : Stored) (s : State) (sound : IsSound k) (fits : ToldBy k s) (place
       (given_assignable k sound slot rec at.1 fits.kept s fits.tells) [] [] refl)
       ∙ ap (λ taken. cond taken (Some NameTaken) (first_refusal (room_checks made))) (sym named))
 
-  -- what `write` comes to
+  -- what `write` gives
   pub write_refused : (payload : Payload) (refusal : Refusal)
       → first_refusal (write_checks_of kept place name slot rec (given_before kept rec name payload.bytes) payload.size) ≡ Some refusal → write now name payload ≡ refused now refusal
   write_refused payload refusal first =
@@ -144,7 +144,7 @@ module _ (k : Stored) (s : State) (sound : IsSound k) (fits : ToldBy k s) (place
       judged_done now (write_checks now old made payload.size) (changed now made) (sym (write_row payload.bytes payload.size) ∙ none)
       ∙ ap (λ n. changed now (file_replaced s n (new_file n old.assigned payload.bytes))) (file_of_name s.files name)
 
-  -- what `rename` comes to
+  -- what `rename` gives
   pub rename_refused : (other : List ℕ) (refusal : Refusal) → first_refusal (rename_checks_of kept place name slot (given_before kept rec other old.bytes)) ≡ Some refusal
       → rename now name other ≡ refused now refusal
   rename_refused other refusal first =

@@ -42,12 +42,12 @@ refused_then (check ∷ checks) others none = search (rules, refused_then checks
 pub judges_refused : {T : Type 0} (checks : List (Bool × Refusal)) (result : Result T Refusal) (refusal : Refusal) → result ≡ Err refusal → first_refusal checks ≡ Some refusal → Judges checks result
 judges_refused checks result refusal ends first = subst (λ r. Judges checks r) (sym ends) first
 
--- what a row says that comes behind one that refuses nothing
+-- what a row says that follows one that refuses nothing
 pub judges_then : {T : Type 0} (checks others : List (Bool × Refusal)) (result : Result T Refusal) → first_refusal checks ≡ None → Judges others result → Judges (checks ++ others) result
 judges_then checks others (Ok done) none judges = refused_then checks others none ∙ judges
 judges_then checks others (Err refusal) none judges = refused_then checks others none ∙ judges
 
--- ---- rows with the same refusals, of which each check is the same where none before it stands
+-- ---- rows with the same refusals: each check is the same if none before it holds
 abbrev pub Alike : List (Bool × Refusal) → List (Bool × Refusal) → Type 0
 Alike [] [] = Unit {0}
 Alike [] (other ∷ others) = ⊥
@@ -67,7 +67,7 @@ same_first (check ∷ checks) (other ∷ others) alike =
     by true e more = refl
     by false e more = more e
 
--- rows with the same checks first
+-- rows with the same first checks
 pub same_behind : (front checks others : List (Bool × Refusal)) → (AllPass front → first_refusal checks ≡ first_refusal others) → first_refusal (front ++ checks) ≡ first_refusal (front ++ others)
 same_behind [] checks others same = same tt
 same_behind (check ∷ front) checks others same = by check.0 (λ passes. same_behind front checks others (λ rest. same (passes, rest)))
@@ -76,13 +76,13 @@ same_behind (check ∷ front) checks others same = by check.0 (λ passes. same_b
     by true more = refl
     by false more = more refl
 
--- nothing was changed
+-- after a refusal nothing is changed
 pub change_refused : {T : Type 0} (k : Stored) (m : Meaning) (base : State) (now : Situation) (outcome : Outcome) (refusal : Refusal) (result : Result T ChangeFault) → StoreHolds k m base now.state
     → outcome ≡ refused now refusal → result ≡ Err (Refused refusal) → Holds base now outcome k m m result
 change_refused k m base now outcome refusal result holds is ends =
     subst (λ r. Holds base now outcome k m m r) (sym ends) (record { moments = leaves_none m _; past = λ n le. refl; ended = (is, holds) })
 
--- nor of a store and its view
+-- the same for a store and its view
 pub view_refused : {T : Type 0} {old now : Stored} {m : Meaning} {base : State} {outcome : Outcome} {result : Result T ChangeFault} → old ≡ now → (sit : Situation) (refusal : Refusal) → StoreHolds now m base sit.state
     → (StoreHolds old m base sit.state → outcome ≡ refused sit refusal) → result ≡ Err (Refused refusal) → Holds base sit outcome now m m result
 view_refused {now = now} {m = m} {base = base} {outcome = outcome} {result = result} view sit refusal holds is ends =

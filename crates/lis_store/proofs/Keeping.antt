@@ -44,7 +44,7 @@ ends_saved {new = new} {result = result} view sound limits edits image save disk
   disk = disk;
 }
 
--- the disk failed, which broke the store
+-- the disk failed, and so the store is broken
 pub keeps_lost : {T : Type 0} {old now new : Stored} {result : Result T ChangeFault} → old ≡ now → IsSound new → result ≡ Err Disk → new.metadata.limits ≡ old.metadata.limits → shape_of new.journal ≡ shape_of old.journal
     → new.metadata.ext ≡ old.metadata.ext → new.is_broken ≡ true → ChangeKeeps now new result
 keeps_lost {old = old} {new = new} {result = result} view sound lost limits image rows broken =
@@ -67,7 +67,7 @@ keeps_behind {old = old} {new = new} {result = result} metadata image keeps ende
   sound = keeps.sound;
 }
 
--- or came behind it
+-- or if a commit came after it
 pub keeps_committed : {T U : Type 0} {old mid new : Stored} {held : Result T ChangeFault} (result : Result U ChangeFault) → ChangeKeeps old mid held → IsSound new → CommitLeft new result → new.metadata ≡ mid.metadata
     → shape_of new.journal ≡ shape_of mid.journal → ChangeKeeps old new result
 keeps_committed {old = old} {new = new} result keeps sound left metadata image = record {

@@ -1,4 +1,4 @@
--- How many words would be known with a file, beside all that are known or in the place of another file.
+-- How many words would be known with a file that is added, or that replaces another file.
 use Rattle.std.proofs.Common.{rules}
 use Rattle.lis_store.proofs.Common.{◌≡◌, ◌⊎◌, refl, sym, ap, ap₂, ◌∙◌, subst, inl, inr, ℕ, ◌+◌, not, ◌&&◌, ◌||◌, Bool, true, false, is_some, IsSome, IfSome, Option, Some, None, List, [], length, arith, IsStrictlySortedBy, and-true, and-false, and_parts, cases_eq, length-map, none-some, sorted_from_rising, get, is_taken, rec_at, number_of, word_of, number_from_word, has, numbers_same, word_cmp, has_word, word_order, among_from_has_word, sorted_with_words, Metadata, AreSound, is_had, is_named_left, is_used, AreUsed, emptied, had_at, left_out, both_ways, false_from_ne_true, words, numbers_where, has_word_from_among, same_tests, one_number}
 use Rattle.lis_bits.specs.Rows.{Rows}
@@ -15,7 +15,7 @@ use Rattle.lis_store.proofs.Gathered.{numbered_below}
 use Rattle.lis_store.proofs.InsteadKnown.{sorted_without, without_word, word_without}
 use Rattle.lis_store.proofs.Measured.{IsCounted, counted}
 
--- a number is used elsewhere or in the row, or it leaves, if it has a word that is used at all
+-- if a number has a word that is used at all, it is used elsewhere or in the row, or it goes out of use
 goes_or_stays : (used row had : Bool) → (used ≡ false → had ≡ true) → (((used || row) && true) || (had && not row && not used)) ≡ true
 goes_or_stays used row had other = search (rules)
 
@@ -26,7 +26,7 @@ only_had : (flag had other left : Bool) → (flag || had || left) ≡ true → (
 only_had flag had other left some none = search (rules)
 
 module _ (k : Metadata) (sound : AreSound k) where
-  -- the word of a number is in use, but for the slot, if one is given
+  -- the word of a number is in use, the description in the slot not counted, if a slot is given
   abbrev stays : Option ℕ → ℕ → Bool
   stays None n = true
   stays (Some slot) n = is_used (emptied k slot) n

@@ -13,7 +13,7 @@ module _ (base : State) (now : Situation) (outcome : Outcome) (before between af
   abbrev Either : List ℕ → Type 0
   Either image = (Stands image base ⊎ Stands image now.state) ⊎ Stands image outcome.next.state
 
-  -- The commit is done, and the change that begins behind it leaves nothing staged.
+  -- The commit is done, and the change that begins after it leaves nothing staged.
   pub held_behind_commit : {T U : Type 0} (old mid new : Stored) (done : U) (result : Result T ChangeFault) → IsSound old → StoreHolds old before base now.state → Commits base now.state mid before between (Ok done)
       → IsSound new → OnOk result (new.journal.staged ≡ []) → EndsUnrefused new.is_broken result → Holds now.state now outcome new between after result → Holds base now outcome new before after result
   held_behind_commit {T = T} old mid new done result sound held commits sound_new settled ends holds = record {
@@ -44,7 +44,7 @@ module _ (base : State) (now : Situation) (outcome : Outcome) (before between af
       → Holds base now outcome new before after result
   held_lost_commit {T = T} {U = U} new change result commits ends = search (rules, leaves_weaken)
 
--- Behind one that may leave nothing staged nothing is.
+-- After a step with a large content, which may leave nothing staged, nothing is staged.
 pub none_left : {T E X : Type 0} (size most : ℕ) (staged : List X) (result : Result T E) → (0 < most → is_large size ≡ false) → is_large size ≡ true → OnOk result (length staged ≤ most) → OnOk result (staged ≡ [])
 none_left size most staged (Err e) small large few = few
 none_left size most [] (Ok done) small large few = refl

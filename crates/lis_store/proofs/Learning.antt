@@ -1,4 +1,4 @@
--- Words that are learnt, one behind the other.
+-- Words that get numbers, one after another.
 use Rattle.std.proofs.Common.{rules}
 use Rattle.std.proofs.Common.{take-append-drop}
 use Rattle.lis_store.proofs.Common.{◌≡◌, ◌⊎◌, refl, sym, ap, ◌∙◌, subst, inl, inr, ℕ, ◌+◌, ◌<◌, ◌≤◌, ◌&&◌, ◌||◌, Bool, true, false, cond, List, [], ◌∷◌, ◌++◌, length, take, drop, get_or, None, is_some, IsSome, append-nil, length-append, arith, list_all, or_cases, length-map, take_more, Contains-get_or, Among, among_from_contains, Dict, number_of, word_cmp, is_valued, is_plain_word, is_head, is_built_in, head_bytes, with_word, with_words, heads, head_not_valued, word_exact, among_from_has_word, Metadata, stays_marked, block_of, is_marked, marked_count, Properties, and_from, or_left, or_right, both_ways, flat_map-append, words, built_in_not_plain, all_among, has_word_from_among}
@@ -30,7 +30,7 @@ pub room_for : (d : Dict) (word : List ℕ) (more : List (List ℕ)) (most : ℕ
 room_for d word more most none room =
     omega (arith, room, words_grow (with_word (words d) word) more, one_more d word none, length-map d.entries (λ (e : List ℕ × ℕ). e.0))
 
--- ---- learning in turn
+-- ---- numbers for words one after another
 pub learns_none : (p : Metadata) → LearnsAll [] p p
 learns_none p = search (rules)
 
@@ -135,7 +135,7 @@ module _ (p : Metadata) (word : List ℕ) (may : may_learn p word ≡ true) (roo
       room_for p.dict (head_bytes word) (word ∷ []) p.limits.props (ap (number_of p.dict) (sym is) ∙ none)
       (subst (λ hs. length (with_words (words p.dict) (hs ++ word ∷ [])) ≤ p.limits.props) (heads_are valued) room)
 
-  -- the head is learnt, where there is one
+  -- the head gets a number, if there is one
   pub heads_learnt : (q : Metadata) (head : List ℕ) (number : ℕ) → head ≡ head_bytes word → is_valued word ≡ true → Learns head number p q → LearnsAll (heads word) p q
   heads_learnt q head number is valued learns =
       subst (λ hs. LearnsAll hs p q) (ap (λ h. h ∷ []) is ∙ sym (heads_are valued)) (learns_one p q head number learns)

@@ -1,4 +1,4 @@
--- What is kept once words are learnt.
+-- What stays the same after words get numbers.
 use Rattle.std.proofs.Common.{rules}
 use Rattle.lis_store.proofs.Common.{◌≡◌, ◌⊎◌, refl, sym, ap, ap₂, ◌∙◌, subst, inl, inr, ℕ, ◌||◌, true, List, [], Option, Some, None, is_some, IsSome, Contains, or_cases, Among, among_from_contains, is_taken, word_of, Filed, numbers_at, State, description, among_with_words, Metadata, AreSound, FreeSlotsAreEmpty, declared_of, state_of, is_head_by, is_had, is_named_left, is_used, filed_rec, some_word, named_all, known_word, or_left, or_right, among_from_any, any_from_among, words, is_linked, words_told, file_told, number_from_among, one_number}
 use Rattle.lis_kept.proofs.Known.{word_known}
@@ -54,7 +54,7 @@ module _ (p q : Metadata) (more : List (List ℕ)) (learns : LearnsAll more p q)
       subst (λ (k : Metadata). words_told q.dict (numbers_at k.ext f.slot) ≡ description (state_of q at) (file_told k.limits q.dict at f)) (sym learns.metadata) here
 
   module _ (after : AreSound q) where
-    -- a word is one that was known, or one that is learnt
+    -- a word is one that was known, or one that gets a number
     pub word_before : (n : ℕ) (word : List ℕ) → word_of q.dict n ≡ Some word → (word_of p.dict n ≡ Some word) ⊎ Among more word
     word_before n word is = by (among_with_words (words p.dict) more word (subst (λ ws. Among ws word) learns.words (word_known q after n word is)))
       where

@@ -1,4 +1,4 @@
--- Rows of truth values that tell a list of numbers, and lists of numbers of which none stands twice.
+-- Rows of truth values that represent a list of numbers, and lists of numbers without repeats.
 use Rattle.lis_store.proofs.Common.{rules, ◌≡◌, ◌⊎◌, refl, sym, ap, ◌∙◌, subst, inl, inr, ℕ, ◌<◌, ◌||◌, not, Bool, true, false, List, [], ◌∷◌, ◌++◌, length, map, set, replicate, arith, length-set, get_or-set_same, get_or-set_other, flat_map, and_parts, ne_eqb, not-true, not_from_false, length-replicate, get_or-replicate, Among, among_append, among_flat_map, is_taken, and_from, both_ways, eq-eqb, false_from_ne_true, map_among, marked, has_number, are_distinct, among_from_number, number_from_among, or-false, get_or_default}
 use Rattle.std.proofs.lemmas.List.{same_lists}
 use Rattle.lis_content.proofs.Numbers.{length-marked}
@@ -9,7 +9,7 @@ pub taken_after : (taken : List Bool) (ns : List ℕ) (n : ℕ) → n < length t
 taken_after taken [] n lt = refl
 taken_after taken (b ∷ ns) n lt = search (rules, length-set, get_or-set_same, or-true, eq-eqb, get_or-set_other, ne_eqb, taken_after (set taken b true) ns n (omega (arith, lt, length-set taken b true)))
 
--- a row of bits that tells these numbers
+-- a row of bits that represents these numbers
 pub marks_are : (taken : List Bool) (ns : List ℕ) (blocks : ℕ) → length taken ≡ blocks → ((n : ℕ) → n < blocks → is_taken taken n ≡ has_number ns n) → taken ≡ marked (replicate blocks false) ns
 marks_are taken ns blocks len each =
     same_lists taken (marked (replicate blocks false) ns) (len ∙ sym long) (λ n d lt.
@@ -40,7 +40,7 @@ distinct_append (m ∷ ms) ns apart others none =
     either absent (inl here) = both_ways (has_number ms m) absent (number_from_among ms m here)
     either absent (inr there) = none m (inl refl) there
 
--- pieces of which each has no number twice, and no two have one number
+-- pieces without repeats, no two of which share a number
 pub distinct_pieces : {X : Type 0} (key : X → ℕ) (piece : X → List ℕ) (xs : List X) → are_distinct (map key xs) ≡ true
     → ((x : X) → Among xs x → are_distinct (piece x) ≡ true) → ((x y : X) (n : ℕ) → Among xs x → Among xs y → Among (piece x) n → Among (piece y) n → x ≡ y)
     → are_distinct (flat_map piece xs) ≡ true

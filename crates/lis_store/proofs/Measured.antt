@@ -22,7 +22,7 @@ use Rattle.lis_store.proofs.MetTests.{met_numbered}
 use Rattle.lis_store.proofs.Naming.{one_of, same_shape, value_at}
 use Rattle.lis_store.proofs.Points.{AllApart, no_tie, length-with_more}
 
--- ---- lists in which nothing stands twice
+-- ---- lists without repeats
 distinct_apart : (words : List (List ℕ)) → are_distinct_words words ≡ true → AllApart words
 distinct_apart [] h = tt
 distinct_apart (w ∷ words) h =
@@ -71,7 +71,7 @@ module _ (k : Metadata) (sound : AreSound k) where
           at (inl there) = own len c.0 (own_link (declared_of k) p c.0 (among_from_contains (links (declared_of k) p) c.0 there)) c.2
           at (inr edge) = absurd (let found = among_axiom k sound (p, c.0) (among_from_contains (axioms_of k) (p, c.0) edge) in not_numbered found.1 found.4)
 
-  -- ---- told words are as many as their numbers
+  -- ---- there are as many words as numbers
   abbrev word_list : ℕ → List (List ℕ)
   word_list n = option_to_list (word_of k.dict n)
 
@@ -92,7 +92,7 @@ module _ (k : Metadata) (sound : AreSound k) where
       omega (arith, length-with_more word_cmp word_exact [] (flat_map word_list ns) once.0 (λ w m none. none), once.1)
 
   -- ---- sets of words, of which some have numbers
-  -- A set has the words whose numbers pass a test, and of the words that have no number those that are given.
+  -- A set has the words whose numbers pass a test, and, of the words that have no number, those that are given.
   pub record IsCounted (test : ℕ → Bool) (fresh set : List (List ℕ)) : Type 0 where
     pub sorted : IsStrictlySortedBy word_cmp set
     pub named : (n : ℕ) → n < k.limits.props → test n ≡ true → IsSome (word_of k.dict n)
@@ -137,7 +137,7 @@ module _ (k : Metadata) (sound : AreSound k) where
           (λ w m. to w m (number_of k.dict w) refl) (λ w m. from w (among_with_words told fresh w m))
 
   -- ---- what words with their heads entail
-  -- what a word leads to, a word with a number leads to, or it is without one itself
+  -- if a word leads to another one, so does the word or its head, and the one that does has a number or is that other word
   through : (p q : List ℕ) → Among (Up p) q → (s : List ℕ) × Among (p ∷ heads p) s × Among (Up s) q × (number_of k.dict s ≡ None → s ≡ q)
   through p q m = by (number_of k.dict p) refl
     where
@@ -200,7 +200,7 @@ module _ (k : Metadata) (sound : AreSound k) where
             some s (Some m) e one = ap (λ (o : Option ℕ). is_some o) e
             some s None e one = absurd (none-some n (sym (ap (number_of k.dict) (sym (one e)) ∙ e) ∙ number_from_word k.dict sound.dict w n is))
 
-    -- what has none is one of them, or a head
+    -- what has no number is one of them, or a head
     noted_same : (w : List ℕ) → number_of k.dict w ≡ None → has_word (with_heads words) w ≡ has_word (All words) w
     noted_same w none =
         same_tests (has_word (with_heads words) w) (has_word (All words) w)
@@ -214,7 +214,7 @@ module _ (k : Metadata) (sound : AreSound k) where
         without s (Some m) e there =
             absurd (let found = up_has_number k sound m s w (word_from_number k.dict sound.dict s m e) there in none-some found.0 (sym none ∙ number_from_word k.dict sound.dict w found.0 found.1))
 
-  -- ---- a description is told
+  -- ---- a description is computed
   module _ (draft : Draft) (start full one two last row : Rows) (few fresh : List (List ℕ))
       (shape : HasShape start 1 k.limits.props) (is_full : full ≡ with_row start 0 (λ _. true))
       (first : Gathers k (with_heads draft.assigned) full one [] few) (second : Gathers k (with_heads draft.own) one two few fresh)

@@ -1,4 +1,4 @@
--- The declared tests that so many bytes meet, word by word.
+-- The declared tests that this many bytes meet, word by word.
 use Rattle.lis_store.proofs.Common.{rules, ◌≡◌, refl, sym, ap, ◌∙◌, ℕ, zero, suc, ◌+◌, ◌-◌, ◌<◌, ◌≤◌, Bool, true, false, ◌&&◌, cond, Option, Some, None, List, [], ◌∷◌, ◌++◌, length, map, filter, take, arith, append-nil, and_parts, take_more, take_all, slice_get_within, get_or_from_slice_get, Among, among_filter, word_of, test_of, is_met, met_tests, Metadata, AreSound, is_declared, declared_of, declared_has_number}
 use Rattle.std.specs.List.{slice_get}
 use Rattle.std.proofs.lemmas.List.{map-append}

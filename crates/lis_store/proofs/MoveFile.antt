@@ -36,7 +36,7 @@ pub moved_nowhere : {T : Type 0} (old : Stored) (m : Meaning) (base s : State) (
 moved_nowhere old m base s place next name text result sound holds leads none ends = search (rules, change_refused, mv_nowhere, told_held)
 
 -- ---- a file that is here
--- What a call asks speaks of the store's value `now`, and what is proved of its metadata, `old`.
+-- What a call requires is about the store's value `now`, and what is proved is about its metadata, `old`.
 module _ {old now : Stored} (same : old ≡ now) (sound : IsSound old) (place : List Formula) (name : List ℕ) {slot : ℕ} (named_now : slot_of now.metadata.catalog name ≡ Some slot)
     (here_now : true ≡ is_among now.metadata place name) (text : List ℕ) {next : List Formula} (led : Ok next ≡ place_or_refusal (resolved place text)) where
   abbrev k : Metadata
@@ -79,7 +79,7 @@ module _ {old now : Stored} (same : old ≡ now) (sound : IsSound old) (place : 
         → Holds base at_place (mv at_place name text) now m m result
     moving_refused first = refused_by (refused_first (moving_checks k place next (text_words text) rec) (instead_checks k slot draft) refusal (first rec there))
 
-  -- and what stands in the place of its record
+  -- and what replaces its record
   module _ (moving : (r : FileRecord) → rec_at k.catalog slot ≡ Some r → first_refusal (moving_checks k place next (text_words text) r) ≡ None) {size : ℕ} {words own : List (List ℕ)}
       (size_is : (r : FileRecord) → rec_at k.catalog slot ≡ Some r → size ≡ r.size) (words_are : (r : FileRecord) → rec_at k.catalog slot ≡ Some r → words ≡ words_moved k r place next)
       (own_are : own ≡ own_kept k slot) where

@@ -29,7 +29,7 @@ all_of P (y ∷ ys) x all (inr m) = all_of P ys x all.1 m
 one_number : (d : Dict) → IsDict d → (m n : ℕ) (word : List ℕ) → word_of d m ≡ Some word → word_of d n ≡ Some word → m ≡ n
 one_number d dict m n word is_m is_n = same_Some m n (sym (number_from_word d dict word m is_m) ∙ number_from_word d dict word n is_n)
 
--- numbers of words are no more than the words
+-- there are at most as many numbers of words as words
 few_named : (d : Dict) → IsDict d → (ns : List ℕ) (words : List (List ℕ)) → IsStrictlySortedBy nat_cmp ns → ((n : ℕ) → Among ns n → is_one_of words (word_of d n) ≡ true) → length ns ≤ length words
 few_named d dict [] words sorted each = omega arith
 few_named d dict (n ∷ ns) words sorted each =
@@ -67,7 +67,7 @@ module _ (d : Dict) (dict : IsDict d) (words : List (List ℕ)) where
   pub named_few : length (numbers_named d words) ≤ length words
   named_few = few_named d dict (numbers_named d words) words (sorted_where d.props (λ n. is_one_of words (word_of d n))) named_one
 
-  -- they tell the words
+  -- they represent the words
   pub named_told : IsStrictlySortedBy word_cmp words → AreNumbered d words → words_told d (numbers_named d words) ≡ words
   named_told sorted numbered =
       same_words (words_told d (numbers_named d words)) words (sorted_set_of (flat_map (λ n. option_to_list (word_of d n)) (numbers_named d words))) sorted
@@ -85,7 +85,7 @@ module _ (d : Dict) (dict : IsDict d) (words : List (List ℕ)) where
 pub same_shape : (row new : Rows) (rows bits at : ℕ) (value : ℕ → Bool) → HasShape row rows bits → new ≡ with_row row at value → HasShape new rows bits
 same_shape row new rows bits at value shape is = search (rules, length-with_row)
 
--- a row that was set anew
+-- a row that was set again
 pub value_at : (row new : Rows) (bits bit : ℕ) (value : ℕ → Bool) → HasShape row 1 bits → new ≡ with_row row 0 value → bit < bits → get new 0 bit ≡ value bit
 value_at row new bits bit value shape is lt = ap (λ (r : Rows). get r 0 bit) is ∙ get-with_row_same row 0 bit value (omega (arith, shape.tall)) (omega (arith, lt, shape.wide))
 

@@ -22,7 +22,7 @@ module _ (test : ℕ → Bool) where
   found_none n ns was fails =
       was ∙ (sym (append-nil (found_below test n)) ∙ (ap (λ b. found_below test n ++ cond b (n ∷ []) []) (sym fails) ∙ sym (more n)))
 
-  -- nothing is found where none passes
+  -- nothing is found if none passes
   pub found_past : (start n : ℕ) → start ≤ n → ((k : ℕ) → start ≤ k → k < n → test k ≡ false) → found_below test start ≡ found_below test n
   found_past start zero le none = let same : start ≡ 0 = omega (arith, le) in ap (found_below test) same
   found_past start (suc n) le none = by (cases_lt n start) (found_past start n)
@@ -41,7 +41,7 @@ module _ (test : ℕ → Bool) where
   pub counted_none : (n count : ℕ) → count ≡ length (found_below test n) → test n ≡ false → count ≡ length (found_below test (n + 1))
   counted_none n count was fails = was ∙ ap length (found_none n (found_below test n) refl fails)
 
-  -- the more numbers are looked at, the more are found
+  -- the more numbers are tested, the more are found
   grows : (m n : ℕ) → m ≤ n → length (found_below test m) ≤ length (found_below test n)
   grows m zero le = ap_le (omega arith)
     where

@@ -1,4 +1,4 @@
--- What an image spells is one state.
+-- An image spells one state.
 use Rattle.lis_store.proofs.Common.{◌≡◌, refl, sym, ap, ap₂, ◌∙◌, subst, ℕ, suc, Bool, List, [], ◌∷◌, length, slice_get, Option, Some, IsTrue, arith, part, block, replayed, is_prop, Limits, State, axiom_slots, prop_bytes, axiom_bytes, file_bytes}
 use Rattle.lis_slots.specs.Slots.{Slots}
 use Rattle.lis_fields.specs.Layouts.{is_axiom, is_file}
@@ -7,7 +7,7 @@ use Rattle.lis_kept.specs.Areas.{property_slots, file_slots}
 use Rattle.lis_store.specs.Stands.{Contents, AreSlots, spelled_state, Spells, Stands}
 use Rattle.lis_kept.specs.Image.{image_layout}
 
--- two lists of one length with the same value in each place
+-- two lists of one length with the same value at each index
 same_lists : {X : Type 0} (xs ys : List X) → length xs ≡ length ys → ((k : ℕ) (x y : X) → slice_get xs k ≡ Some x → slice_get ys k ≡ Some y → x ≡ y) → xs ≡ ys
 same_lists [] [] len each = refl
 same_lists [] (y ∷ ys) len each = absurd (omega arith)
@@ -15,7 +15,7 @@ same_lists (x ∷ xs) [] len each = absurd (omega arith)
 same_lists (x ∷ xs) (y ∷ ys) len each =
     ap₂ (λ z zs. z ∷ zs) (each 0 x y refl refl) (same_lists xs ys (omega arith) (λ k u v is_u is_v. each (suc k) u v is_u is_v))
 
--- an array of slots spells one list of values, where each layout has one
+-- an array of slots spells one list of values, if each spelling has one value
 pub one_array : {X : Type 0} (spelled : X → List ℕ) (is_in_range : X → Bool) (slots : Slots) (at : ℕ → List ℕ) (xs ys : List X)
     → ((x y : X) → IsTrue (is_in_range x) → IsTrue (is_in_range y) → spelled x ≡ spelled y → x ≡ y)
     → AreSlots spelled is_in_range slots at xs → AreSlots spelled is_in_range slots at ys → xs ≡ ys

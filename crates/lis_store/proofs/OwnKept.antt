@@ -1,4 +1,4 @@
--- The words that a file has by itself are the built-in ones of its description: no other word leads to one of them.
+-- The derived words of a file, and their heads, are the built-in words of its description: no other word leads to one of them.
 use Rattle.std.proofs.Common.{rules}
 use Rattle.lis_store.proofs.Common.{◌≡◌, ◌⊎◌, sym, ap, ◌∙◌, subst, inl, inr, refl, ℕ, suc, zero, true, false, List, ◌++◌, option_to_list, Some, length, list_all, Among, among_append, among_filter, among_flat_map, among_left, among_right, contains_from_among, filter_among, Filed, slot_of, rec_at, numbers_at, word_of, FileRecord, State, WellFormed, File, all_up, up, description, met_tests, derived_words, derived_built_in, new_file, file_of_name, is_built_in, is_plain_word, is_test, is_valued, head_bytes, plain_not_valued, entails_from_up, up_self, entailing, sorted_all_up, OwnWord, own_word, Assigned, Derived, Met, Head, Weaker, Metadata, filed_at_slot, among_word, word_among, both_ways, false_from_ne_true, Chain, flat_map_among, file_of, links, built_in_not_plain, declarable_not_valued, OwnLink, up_trans, entailed_in, all_among, all_from, link_cases, same_words, words_told, file_told, among_from_number, number_from_among, only_word}
 use Rattle.lis_model.specs.State.{is_declarable}
@@ -41,7 +41,7 @@ module _ (s : State) (formed : WellFormed s) where
       by zero same = inl same
       by (suc n) c = let end = chain_last D A n p w c in last n end.0 end.1 (link_cases D A end.0 w end.2)
 
-  -- a word that is declared, or whose head is, leads to none
+  -- a word that is declared, or whose head is declared, leads to none
   none_to_own : (p w : List ℕ) → is_built_in w ≡ true → is_built_in p ≡ false → (is_valued p ≡ true → Among D (head_bytes p)) → Among (up D A p) w → ⊥
   none_to_own p w own apart head leads = search (rules, leads_to_own, both_ways, declared_apart)
 
@@ -60,7 +60,7 @@ module _ (s : State) (formed : WellFormed s) where
       by p (Met known met) leads =
           absurd (none_to_own p w own (declared_apart p known) (λ valued. absurd (both_ways (is_valued p) (declarable_not_valued p (all_among is_declarable D p formed.declared known)) valued)) leads)
 
-  -- words that are led to by those that take their place
+  -- if one of the others leads to each of some words, the others lead to all that these lead to
   swapped : (words some others tests : List (List ℕ)) → ((w : List ℕ) → Among some w → (d : List ℕ) × Among others d × Among (up D A d) w)
       → (q : List ℕ) → Among (all_up D A (words ++ some ++ tests)) q → Among (all_up D A (words ++ others ++ tests)) q
   swapped words some others tests to q m = let found = entailing D A (words ++ some ++ tests) q m in by found.0 (among_append (words ++ some) tests found.0 found.1) found.2
@@ -77,7 +77,7 @@ module _ (s : State) (formed : WellFormed s) where
       by w (inl m) leads = front w (among_append words some w m) leads
       by w (inr m) leads = of_all w (inr m) leads
 
-  -- whatever words it is given
+  -- whatever words are assigned to it
   own_described : (file : File) → Among s.files file → (own : List (List ℕ)) → ((w : List ℕ) → Among own w → (is_built_in w ≡ true) × Among (description s file) w)
       → ((w : List ℕ) → is_built_in w ≡ true → Among (description s file) w → Among own w) → (words : List (List ℕ)) → AreOwnWords D A own (new_file file.name words file.bytes)
   own_described file m own are all words =
@@ -129,6 +129,6 @@ module _ (k : Stored) (s : State) (sound : IsSound k) (fits : ToldBy k s) (name 
       flat_map_among (kept_word p) numbers found.0 w (among_from_number numbers found.0 found.2)
       (filter_among is_built_in (option_to_list (word_of p.dict found.0)) w (subst (λ o. Among (option_to_list o) w) (sym found.1) (inl refl)) own)
 
-  -- what the file's description has kept gives it the description that it has elsewhere
+  -- the built-in words of the file's description give it the description that it has under other words
   pub own_told : (words : List (List ℕ)) → AreOwnWords s.declared s.axioms (own_kept p slot) (new_file name words old.bytes)
   own_told words = search (rules, file_of_name, own_described, old_there, kept_described, described_kept)

@@ -1,4 +1,4 @@
--- Links of words by themselves, between words that keep their numbers.
+-- The own links of words, between words that keep their numbers.
 use Rattle.lis_store.proofs.Common.{◌≡◌, refl, sym, ap₂, ◌∙◌, subst, ℕ, true, List, Option, Some, None, IsSome, both_ways, same_Some, Dict, IsDict, number_of, word_of, number_from_word, word_from_number, has_word, head_bytes, Head, Weaker, among_from_has_word, Metadata, is_own_link, AreSound, declared_of, some_word, some_number, declared_has_number, links, OwnLink}
 use Rattle.lis_laws.proofs.Chains.{own_link}
 use Rattle.lis_kept.proofs.OwnLinks.{own_to_none}
@@ -10,7 +10,7 @@ own_before declared None b c d first second h = absurd cc
 own_before declared (Some w) None c d first second h = absurd cc
 own_before declared (Some w) (Some v) c d first second h = ap₂ (is_own_link declared) (first w refl) (second v refl) ∙ h
 
--- With more words, one that had a number leads by itself to words that had one: its head, and declared tests.
+-- With more words, a word that had a number has own links only to words that had one: its head, and declared tests.
 module _ (p : Metadata) (sound : AreSound p) (d : Dict) (dict : IsDict d) (keeps : (n : ℕ) (word : List ℕ) → word_of p.dict n ≡ Some word → word_of d n ≡ Some word) where
   pub own_back : (a b : ℕ) → IsSome (word_of p.dict a) → is_own_link (declared_of p) (word_of d a) (word_of d b) ≡ true
       → is_own_link (declared_of p) (word_of p.dict a) (word_of p.dict b) ≡ true

@@ -33,7 +33,7 @@ module _ {K : Type 0} (cmp : K → K → Ordering) (order : IsTotalOrder cmp) wh
       either x (inl m) = put x (among_insert_key cmp xs n x m)
       either x (inr later) = inr (inr later)
 
-  -- what ties in a set is one point
+  -- points in a set that compare as equal are one point
   pub no_tie : (x y : K) (xs : List K) → AllByRecursion (λ z. cmp x z ≡ Less) xs → Among xs y → cmp x y ≡ Equal → ⊥
   no_tie x y [] below m tied = absurd m
   no_tie x y (z ∷ xs) below (inl same) tied = let less = ap (cmp x) (sym same) ∙ below.0 in cc
@@ -64,7 +64,7 @@ module _ {K : Type 0} (cmp : K → K → Ordering) (order : IsTotalOrder cmp) wh
       one : (k x : K) → Among xs k → Among {K = K} [] x ⊎ Among xs x → cmp k x ≡ Equal → k ≡ x
       one k x here there tied = one_point ys sorted k x (to k here) (to x (of_points x there)) tied
 
--- ---- points of which none stands twice
+-- ---- points without repeats
 abbrev pub AllApart : {K : Type 0} → List K → Type 0
 AllApart [] = Unit {0}
 AllApart (x ∷ xs) = (Among xs x → ⊥) × AllApart xs

@@ -1,4 +1,4 @@
--- A file that is admitted: its words may be learnt, and its numbers are in form.
+-- A file that is admitted: its words may get numbers, and its numbers are well formed.
 use Rattle.std.proofs.Common.{rules}
 use Rattle.std.proofs.Common.{◌^◌}
 use Rattle.lis_store.proofs.Common.{◌≡◌, ◌⊎◌, refl, sym, ap, ap₂, ◌∙◌, subst, inl, inr, ℕ, ◌≤◌, nat_lt, nat_le, ◌&&◌, ◌||◌, cond, Bool, true, false, List, [], ◌∷◌, ◌++◌, length, is_some, IsSome, arith, flat_map, list_all, IsStrictlyIncreasing, nat_cmp, nat_cmp_total, and_parts, or_cases, lt-ltb, is_rising, Among, among_filter, among_append, among_left, among_flat_map, members_le, sorted_from_rising, number_of, word_of, are_blocks, is_record, word_cmp, has_word, is_valued, is_head, is_built_in, head_bytes, with_word, with_words, State, heads, up, all_up, is_assignable, met_tests, plain_not_valued, among_heads, up_self, all_weaker, rising_from_sorted, word_order, among_with_words, with_words_new, sorted_with_words, among_from_has_word, Metadata, AreSound, is_sound_record, is_declared, declared_of, axioms_of, among_where, sorted_where, few_properties, and_from, or_left, or_right, both_ways, le-leb, flat_map-append, IsStrictlyIncreasing-from_sorted, flat_map_among, words, has_number, all_among, all_from, with_words_old, set_of_among, number_from_among}
@@ -17,7 +17,7 @@ use Rattle.lis_store.proofs.Learning.{number_there, learns_more, number_learnt, 
 use Rattle.lis_store.proofs.Naming.{one_of, named_one, named_few}
 use Rattle.lis_store.proofs.Told.{words_grow}
 
--- ---- words that may be learnt
+-- ---- words that may get numbers
 pub declared_known : (k : Metadata) (word : List ℕ) → has_word (declared_of k) word ≡ true → IsSome (number_of k.dict word)
 declared_known k word h = number_there k.dict word (among_filter (is_declared k) (words k.dict) word (among_from_has_word (declared_of k) word h)).0
 
@@ -47,7 +47,7 @@ learnable_from k words h = all_weaker (is_assignable (declared_of k)) (may_learn
 pub own_may : (k : Metadata) (words : List (List ℕ)) → list_all is_built_in words ≡ true → list_all (may_learn k) words ≡ true
 own_may k words h = all_weaker is_built_in (may_learn k) words (λ word m one. built_in_may k word one) h
 
--- ---- what words entail has them and their heads
+-- ---- what words entail includes the words and their heads
 pub head_entailed : (declared : List (List ℕ)) (axioms : List (List ℕ × List ℕ)) (own : List (List ℕ)) (word : List ℕ) → Among (with_heads own) word → Among (all_up declared axioms own) word
 head_entailed declared axioms own word m =
     let found = among_flat_map behind_head own word m in
@@ -59,7 +59,7 @@ head_entailed declared axioms own word m =
         subst (λ w. Among (up declared axioms own_word) w) parts.1 (up_own declared axioms own_word (head_bytes own_word) (links_head declared own_word parts.0))
     by own_word (inr here) = elim here [ inl same ↦ subst (λ w. Among (up declared axioms own_word) w) same (up_self declared axioms own_word) | inr none ↦ absurd none ]
 
--- each word stands behind its head
+-- each word is in the list after its head
 pub behind_itself : (own : List (List ℕ)) (word : List ℕ) → Among own word → Among (with_heads own) word
 behind_itself own word m = flat_map_among behind_head own word word m (by (is_valued word))
   where
@@ -131,7 +131,7 @@ module _ {p : Metadata} (sound : AreSound p) {draft : Draft} (may : MayComeIn p 
     pub entailed_short : length (all_up (declared_of r) (axioms_of r) (learnt_words draft ++ tests r)) ≤ 128
     entailed_short = omega (arith, ap length entailed_is, may.short)
 
--- ---- numbers in form
+-- ---- numbers in their form
 module _ (r : Metadata) (sound : AreSound r) (words : List (List ℕ)) where
   pub named_tags : length words ≤ 16 → are_tags (numbers_named r.dict words) ≡ true
   named_tags few =

@@ -6,7 +6,7 @@ use Rattle.lis_content.proofs.Numbers.{within_if_below}
 use Rattle.lis_store.specs.Contents.{AreContentsWithin}
 use Rattle.lis_store.proofs.FileBlocks.{content_told, content_among}
 
--- what is read where the blocks of the content are blocks of the image is what memory tells
+-- if the blocks of the content are blocks of the image, what is read is what memory represents
 pub read_told : (limits : Limits) (rec : FileRecord) (at : ℕ → List ℕ) (bytes : List ℕ) (blocks base size : ℕ) (numbers : List ℕ) → blocks ≡ image_blocks limits → base ≡ data_start limits → size ≡ rec.size
     → numbers ≡ rec.blocks → AreContentsWithin limits at rec → (IsTrue (are_within base blocks (content_blocks base numbers size at)) → bytes ≡ file_content base numbers size at)
     → bytes ≡ bytes_told limits at rec

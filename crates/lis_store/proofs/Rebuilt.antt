@@ -1,4 +1,4 @@
--- Descriptions that become others, slot by slot, and those that are made anew: what holds of memory then, and how much is edited and marked.
+-- Descriptions that are replaced, slot by slot, and those that are rebuilt: what holds of memory then, and how much is edited and marked.
 use Rattle.std.proofs.Common.{rules}
 use Rattle.lis_store.proofs.Common.{◌≡◌, ◌⊎◌, inl, inr, refl, subst, ℕ, zero, suc, ◌+◌, ◌≤◌, Bool, true, false, cond, List, [], ◌∷◌, ◌++◌, length, count_by, arith, length-append, sym, ap, ap₂, ◌∙◌, ◌<◌, map, get_or-set_same, get_or-set_other, length-set, if◌then◌else◌, filter, take, not, Option, Some, is_some, IsSome, both_ways, false_from_ne_true, sum_by-cons, Among, among_left, among_right, is_taken, Metadata, is_marked, marked_count, cases_lt, numbers_at, differs, IsSaved, block_of, Describes, among_where, map_all, length-map, length-take-le, list_all, among_append, among_filter, word_of, rec_at, slot_is_below, Ext, has, FileRecord, is_test, is_had, had_at, AreSound, FreeSlotsAreEmpty, among_map, map_among, numbers_where, Rows, has_number, all_among, all_from, is_linked, common_steps}
 use Rattle.lis_kept.proofs.Marking.{marked_within, marked_only}
@@ -42,17 +42,17 @@ marked_more p q blocks within =
     by block (inr new) = among_right (taken_from p.marks 0) blocks block new
 
 -- ---- one slot more
--- nothing is done yet
+-- at the start nothing is done
 pub redescribed_none : (sets : ℕ → List ℕ) (p : Metadata) → Redescribes sets 0 p p
 redescribed_none sets p = grind (arith, common_steps)
 
 module _ (sets : ℕ → List ℕ) (n : ℕ) (p q : Metadata) (so_far : Redescribes sets n p q) where
-  -- the next slot is as it was at first
+  -- the next slot is as it was at the start
   pub same_here : numbers_at q.ext n ≡ numbers_at p.ext n
   same_here = so_far.others n (omega arith)
 
   module _ (r : Metadata) (inside : n < length p.ext.sets) (one : SlotHas n (sets n) q r) where
-    -- the slot, in the terms of what was at first
+    -- the slot, compared with the start
     record Turn : Type 0 where
       metadata : r ≡ record p { ext = r.ext; marks = r.marks }
       props : r.ext.props ≡ p.ext.props
@@ -89,8 +89,8 @@ module _ (sets : ℕ → List ℕ) (files : ℕ) (p q : Metadata) (all : Redescr
   pub redescribed_edits : AreEditsFew p.ext q.ext
   redescribed_edits = grind (arith, common_steps, given_then, map_all)
 
--- ---- descriptions that are made anew
--- ---- a slot that is not reached yet becomes what it becomes at first
+-- ---- descriptions that are rebuilt
+-- ---- a slot that is not reached yet gets what it would get at the start
 module _ (n : ℕ) (p : Metadata) (ext : Ext) (marks : List Bool) (here : numbers_at ext n ≡ numbers_at p.ext n) where
   abbrev so_far : Metadata
   so_far = record p { ext = ext; marks = marks }
@@ -120,7 +120,7 @@ module _ (how : Rebuild) (n : ℕ) (p q : Metadata) (so_far : Redescribes (rebui
   pub rebuilt_same : rebuilt q how n ≡ rebuilt p how n
   rebuilt_same = ap (λ k. rebuilt k how n) so_far.metadata ∙ rebuilt_yet n p q.ext q.marks (same_here (rebuilt p how) n p q so_far) how
 
--- ---- the numbers of which it is made anew
+-- ---- the numbers from which it is rebuilt
 added_few : (how : Rebuild) → length (added how) ≤ 1
 added_few how = search (rules)
 
@@ -137,7 +137,7 @@ pub base_words : (k : Metadata) (how : Rebuild) (slot : ℕ) → has_words k how
 base_words k how slot words named = grind (arith, common_steps, all_from, among_append, all_among, among_filter)
 
 -- ---- memory then
--- Descriptions of files were made anew.
+-- Descriptions of files were rebuilt.
 pub record IsRebuilt (concerned : ℕ → Bool) (base : ℕ → List ℕ) (k m : Metadata) : Type 0 where
   pub sound : AreSound k
   pub filed : (slot : ℕ) → concerned slot ≡ true → IsSome (rec_at k.catalog slot)
@@ -147,7 +147,7 @@ pub record IsRebuilt (concerned : ℕ → Bool) (base : ℕ → List ℕ) (k m :
 pub turned_cases : (old new : List ℕ) (n : ℕ) → differs old new n ≡ true → ((has_number new n ≡ true) × (has_number old n ≡ false)) ⊎ ((has_number old n ≡ true) × (has_number new n ≡ false))
 turned_cases old new n turned = grind (arith, common_steps, both_ways)
 
--- one at which they are alike does not turn
+-- a number at which they are alike does not change
 pub unturned : (old new : List ℕ) (n : ℕ) → has_number new n ≡ has_number old n → differs old new n ≡ false
 unturned old new n same = grind (arith, common_steps)
 
@@ -173,7 +173,7 @@ module _ {concerned : ℕ → Bool} {base : ℕ → List ℕ} {k m : Metadata} (
   none_past : (slot : ℕ) → k.limits.files ≤ slot → anew k concerned base slot ≡ numbers_at k.ext slot
   none_past slot le = search (rules, false_from_ne_true, slot_is_below)
 
-  -- a slot that is concerned has the numbers of all that its base entails, and each other one is as before
+  -- a concerned slot has the numbers of all that its base entails, and each other slot is as before
   pub set_where : (P : List ℕ → Type 0) (slot : ℕ) → (concerned slot ≡ true → P (closure k (base slot))) → (concerned slot ≡ false → P (numbers_at k.ext slot)) → P (numbers_at m.ext slot)
   set_where P slot here other = subst P (sym (given_then (anew k concerned base) k.limits.files k m r.redescribes r.sound.files none_past slot)) (by (concerned slot) refl)
     where
@@ -192,7 +192,7 @@ module _ {concerned : ℕ → Bool} {base : ℕ → List ℕ} {k m : Metadata} (
   pub made_edits : AreEditsFew k.ext m.ext
   made_edits = redescribed_edits (anew k concerned base) k.limits.files k m r.redescribes r.sound.files none_past
 
-  -- ---- memory is in form
+  -- ---- memory is well formed
   pub free_made : FreeSlotsAreEmpty k → FreeSlotsAreEmpty made
   free_made free slot none n =
       set_where (λ ns. has_number ns n ≡ false) slot
@@ -215,7 +215,7 @@ module _ {concerned : ℕ → Bool} {base : ℕ → List ℕ} {k m : Metadata} (
   tests_made same = tests_stay k made (λ at rec there. there) (λ n w is test. is) (λ n at rec w there is test. had_made n at (same n at w is test))
 
   -- ---- what is marked
-  -- where the rows that turn are those of a few numbers
+  -- if the rows that change are those of a few numbers
   pub few_made : ((slot : ℕ) × (concerned slot ≡ true)) ⊎ ((slot : ℕ) → concerned slot ≡ false) → (rows : List ℕ) → ((slot : ℕ) → concerned slot ≡ true → length rows ≤ 128)
       → ((slot n : ℕ) → concerned slot ≡ true → differs (numbers_at k.ext slot) (closure k (base slot)) n ≡ true → Among rows n) → marked_count m ≤ marked_count k + 128
   few_made some rows few within = by some

@@ -1,4 +1,4 @@
--- What memory comes to when a file has come into it, in the place of another or into a free slot.
+-- What becomes of memory when a file is put into it, instead of another or into a free slot.
 use Rattle.std.proofs.Common.{rules}
 use Rattle.lis_store.proofs.Common.{◌≡◌, refl, sym, ap, ◌∙◌, subst, ℕ, ◌+◌, ◌<◌, ◌≤◌, ◌==◌, zero, suc, not, Bool, true, List, [], length, map, filter, set, Option, None, Some, is_some, IfSome, IsSome, IsSomeAnd, arith, ne_eqb, not_from_false, length-map, Among, filter_among, Filed, rec_at, Ext, numbers_at, FileRecord, Limits, State, File, blocks_taken, used_blocks, file_added, file_removed, Metadata, IsSaved, block_of, is_marked, marked_count, AreSound, emptied, blocks_told, Tells, filed_at_slot, eq-eqb, map_among, given, filter_drops, Files}
 use Rattle.std.proofs.lemmas.List.{set-get_or}
@@ -19,7 +19,7 @@ use Rattle.lis_store.proofs.SettledTells.{tells_settled}
 use Rattle.lis_store.proofs.Vacated.{rec_there}
 
 -- ---- room for a file
--- a list of all numbers below n has n at least
+-- a list of all numbers below n has at least n elements
 covers : (n : ℕ) (xs : List ℕ) → ((k : ℕ) → k < n → Among xs k) → n ≤ length xs
 covers zero xs all = omega arith
 covers (suc n) xs all =
@@ -28,7 +28,7 @@ covers (suc n) xs all =
     let rest = covers n (filter keep xs) (λ k lt. filter_among keep xs k (all k (omega (arith, lt))) (not_from_false (k == n) (ne_eqb k n (λ same. omega (arith, lt, same))))) in
     omega (arith, fewer, rest)
 
--- where each slot has a file there is no room
+-- if each slot has a file there is no room
 pub all_filed : (k : Metadata) → AreSound k → ((slot : ℕ) → slot < k.limits.files → is_some (rec_at k.catalog slot) ≡ true) → k.limits.files ≤ length k.catalog.entries
 all_filed k sound each =
     let slots : List ℕ = map (λ (f : Filed). f.slot) k.catalog.entries in
@@ -69,7 +69,7 @@ may_comes (Some s) p v slot draft form is may makes = by (rec_at p.catalog s) ma
     by None may makes = absurd may
     by (Some rec) may makes = coming p v slot rec form makes draft (subst (λ n. MayReplace p n rec draft) (sym is) may)
 
--- what stays where room is made
+-- what stays when room is made
 record Stays (p v : Metadata) : Type 0 where
   limits : v.limits ≡ p.limits
   axioms : v.axioms ≡ p.axioms
@@ -84,7 +84,7 @@ stays gone slot p v same = search (rules)
 pub limits_room : (gone : Option FileRecord) (slot : ℕ) (p v : Metadata) → MakesRoom slot gone p v → v.limits ≡ p.limits
 limits_room gone slot p v makes = (stays gone slot p v makes).limits
 
--- ---- memory is in form
+-- ---- memory is well formed
 module _ {gone : Option FileRecord} {draft : Draft} {blocks : List ℕ} {p q : Metadata} (r : RefilesIn gone draft blocks p q) where
   abbrev stay : Stays p r.vacated
   stay = stays gone r.slot p r.vacated r.makes
@@ -107,19 +107,19 @@ module _ {gone : Option FileRecord} {draft : Draft} {blocks : List ℕ} {p q : M
   pub edits_refiled : AreEditsFew p.ext q.ext
   edits_refiled = subst (λ (e : Ext). AreEditsFew e q.ext) stay.ext (edits_settled r.vacant r.may r.settles)
 
--- 513 blocks more at most are marked
+-- at most 513 more blocks are marked
 pub few_refiled : (gone : Option FileRecord) {draft : Draft} {blocks : List ℕ} {p q : Metadata} → AreInForm p → RefilesIn gone draft blocks p q → marked_count q ≤ marked_count p + 513
 few_refiled None form r = omega (arith, few_settled r.vacant r.may r.settles, ap (λ (k : Metadata). marked_count k) r.makes)
 few_refiled (Some rec) {draft} {blocks} {p} form r =
     let home = ap (λ (l : Limits). is_marked r.vacated (block_of l Files r.slot)) (stays (Some rec) r.slot p r.vacated r.makes).limits ∙ r.makes.slot_marked in
     omega (arith, few_again r.vacant r.may r.settles home, r.makes.marks.few, form.short r.slot)
 
--- ---- the state that it tells
--- memory tells the same, whatever is marked
+-- ---- the state that it represents
+-- memory represents the same, whatever is marked
 tells_marked : {o : Metadata} {at : ℕ → List ℕ} {s : State} (marks : List Bool) → Tells o at s → Tells (record o { marks = marks }) at s
 tells_marked marks tells = search (rules)
 
--- Memory told s, whatever blocks are taken now, and a file goes, if one does.
+-- Memory represented s, whatever blocks are taken now, and a file is removed, if there is one.
 tells_room : (gone : Option FileRecord) (o : Metadata) (taken marks : List Bool) (v : Metadata) (slot : ℕ) → AreInForm (retaken o taken marks) → MakesRoom slot gone (retaken o taken marks) v → rec_at v.catalog slot ≡ None → AreSound o
     → {at : ℕ → List ℕ} {s : State} → Tells o at s → Tells (record (emptied v slot) { taken = given o.taken (blocks_gone o.limits at gone) }) at (file_gone s gone)
 tells_room None o taken marks v slot form same free sound {at} {s} tells =
@@ -130,7 +130,7 @@ tells_room (Some rec) o taken marks v slot form makes free sound {at} {s} tells 
     let T : Metadata → Type 0 = λ k. Tells (record (emptied k slot) { taken = given o.taken (blocks_told o.limits at rec) }) at (file_removed s rec.name) in
     subst T (sym (left_is (retaken o taken marks) v slot rec form makes)) (tells_without o taken marks v slot rec form makes sound at s tells (emptied o slot).ext refl v.marks)
 
--- Then blocks hold the bytes of the file that comes.
+-- Then blocks hold the bytes of the file that is put in.
 pub tells_refiled : (file : File) (own : List (List ℕ)) {gone : Option FileRecord} {blocks : List ℕ} {q : Metadata} (o : Metadata) (taken marks : List Bool) → AreInForm (retaken o taken marks)
     → RefilesIn gone (with_own file own) blocks (retaken o taken marks) q
     → AreSound o → {at there : ℕ → List ℕ} {s : State} → Tells o at s → AreOwnWords (file_gone s gone).declared (file_gone s gone).axioms own file → {held : List ℕ} → IsHoused o.limits o.taken taken (blocks_gone o.limits at gone) held file.bytes blocks at there

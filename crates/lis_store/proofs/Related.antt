@@ -1,4 +1,4 @@
--- What refuses an axiom: the row of `axiom`, told by what a store keeps, is the row of the state; and what holds where it refuses nothing.
+-- What an axiom is refused for: the row of `axiom`, by what a store keeps, is the row of the state. Also what holds if it refuses nothing.
 use Rattle.std.proofs.Common.{rules}
 use Rattle.std.proofs.Common.{◌↔◌}
 use Rattle.lis_store.proofs.Common.{◌≡◌, ◌⊎◌, refl, sym, ap, ap₂, ◌∙◌, subst, inl, inr, ℕ, ◌+◌, Bool, true, false, cond, is_some, Some, None, List, [], ◌∷◌, ◌++◌, length, arith, ◌<◌, ◌&&◌, ◌||◌, nat_lt, nat_le, Option, IsSome, option_to_list, not, declared_has_number, IsStrictlySortedBy, length-map, none-some, Among, among_insert_key, insert_key_old, sorted_from_rising, sorted_insert_key, number_of, number_from_word, word_from_number, Taxonomy, leads, entails_decides, word_cmp, has_word, is_valued, head_bytes, with_word, with_words, up, head_not_valued, word_exact, word_order, among_from_has_word, Metadata, AreSound, declared_of, axioms_of, fun_ext, and_parts, cases_lt, leb-true, ltb-true, get_or_past, contains_from_among, Filed, rec_at, word_of, has, numbers_at, State, File, all_up, own_words, description, axiom_added, exceeds_words, entailing, sorted_all_up, all_up_closed, among_with_words, with_words_new, sorted_with_words, FreeSlotsAreEmpty, is_declared, Tells, among_word, number_told, not-false, ltb-false, same_word, is_plain_word, Limits, Refusal, pair_cmp, same_pair, has_axiom, Situation, refused, exceeds_known, add_axiom, pair_exact, same_word_decides, is_filled, axioms_counted, both_ways, false_from_ne_true, and_from, words, has_word_from_among, same_words, with_words_old, same_tests, set_of, entailed_in, all_up_has, all_among, words_told, file_told, any_from_among, changed, declared_there}
@@ -26,8 +26,8 @@ use Rattle.lis_store.proofs.Judged.{same_first, all_pass, judged_refused, judged
 use Rattle.lis_store.proofs.Relates.{known_then}
 use Rattle.lis_store.proofs.Points.{length-with_more}
 
--- ---- what the judging asks of numbers
--- a test that decides what a number leads to is the taxonomy's
+-- ---- what the judging computes of numbers
+-- a test that decides what a number leads to is that of the taxonomy
 pub decided : (t : Taxonomy) (p q : ℕ) (b : Bool) → ((b ≡ true) ↔ Leads t p q) → b ≡ leads t p q
 decided t p q b both = same_tests b (leads t p q) (λ h. (entails_decides t p q).1 (both.0 h)) (λ h. both.1 ((entails_decides t p q).0 h))
 
@@ -89,7 +89,7 @@ module _ (k : Metadata) (sound : AreSound k) (word : List ℕ) where
       old (inr there) = there
 
 -- ---- descriptions that an axiom would make too large, by their numbers and by their words
--- a slot that has a number is one of those that there are
+-- a slot that has a number is one of the slots
 pub had_below : (k : Metadata) (n slot : ℕ) → has k.ext n slot ≡ true → slot < length k.ext.sets
 had_below k n slot had = search (rules, cases_lt, get_or_past, both_ways)
 
@@ -102,7 +102,7 @@ pub overfull_here : (k : Metadata) (left right : List ℕ) (from number : ℕ) �
     → is_overfull k left right slot ≡ (has k.ext from slot && nat_lt 128 (length (wider k (is_gained k (number ∷ [])) slot)))
 overfull_here k left right from number is_left is_right slot = search (rules, gains_of)
 
--- none has a word that has no number
+-- no slot has a word that has no number
 pub overfull_unnumbered : (k : Metadata) (left right : List ℕ) → number_of k.dict left ≡ None → has_overfull k left right ≡ false
 overfull_unnumbered k left right none = search (rules, full_nowhere)
 
@@ -185,7 +185,7 @@ module _ (k : Metadata) (sound : AreSound k) (at : ℕ → List ℕ) (s : State)
       by slot (Some n) had = had_filed k free n slot had
 
 -- ---- the row
--- ---- what a row that refuses nothing says
+-- ---- what follows if a row refuses nothing
 pub related : {k : Metadata} → AreSound k → {left right : List ℕ} → first_refusal (axiom_checks_of k left right) ≡ None → MayRelate k left right
 related {k} sound {left} {right} none =
     let row = all_pass (axiom_checks_of k left right) none in
@@ -283,7 +283,7 @@ module _ {k : Stored} {at : ℕ → List ℕ} (sound : IsSound k) (now : Situati
       same_first (axiom_checks_of p left right) (axiom_checks s pair made)
       (refl, refl, λ b. (refl, forms_told, λ c. (refl, there, λ d. (refl, circle_told, λ e. (refl, room d, λ f. (refl, known b c, λ g. (refl, large b c, λ h. tt)))))))
 
-  -- what `axiom` comes to
+  -- what `axiom` gives
   pub axiom_refused : (refusal : Refusal) → first_refusal (axiom_checks_of p left right) ≡ Some refusal → add_axiom now pair ≡ refused now refusal
   axiom_refused refusal first = judged_refused now (axiom_checks s pair made) (changed now made) refusal (sym same_row ∙ first)
 

@@ -1,4 +1,4 @@
--- What an axiom that is added comes to: it links two numbers, and descriptions gain what its right word entails.
+-- What adding an axiom gives: it links two numbers, and descriptions gain what its right word entails.
 use Rattle.std.proofs.Common.{rules}
 use Rattle.std.proofs.Common.{eq-eqb}
 use Rattle.lis_store.proofs.Common.{◌≡◌, ◌⊎◌, refl, sym, ap, ap₂, ◌∙◌, subst, inl, inr, ℕ, ◌==◌, true, false, List, [], ◌∷◌, Some, is_some, IsSome, ◌+◌, ◌*◌, ◌/◌, ◌<◌, ◌≤◌, ◌&&◌, ◌||◌, Bool, length, count_by, arith, cond, ◌++◌, slice_get, slice_set, Option, None, option_to_list, length-append, Result, and_parts, or_cases, eqb-true, same_Some, Among, among_filter, filter_among, insert_key_old, word_of, Ext, has, numbers_at, differs, is_plain_word, is_test, has_word, plain_not_test, with_axiom, State, File, pair_cmp, up, all_up, own_words, file_words, up_self, Metadata, AreSound, FreeSlotsAreEmpty, declared_of, axioms_of, is_used, named_all, among_word, word_among, number_told, used_had, among_right, number_of, number_from_word, word_from_number, among_where, where_among, sorted_where, is_valued, is_head, is_built_in, head_bytes, heads, has_axiom, plain_not_valued, has_pair, is_filled, some_word, some_number, flat_map, Contains, contains_from_among, among_append, among_left, is_taken, Dict, Filed, AxiomSlot, FreeAxiom, Pair, word_cmp, same_word, with_words, description, axiom_added, sorted_known, IsStrictlySortedBy, among_heads, same_word_decides, among_with_words, with_words_new, sorted_with_words, IsSaved, KeepsInUse, bit_of, state_of, is_head_by, AreUsed, Tells, named_below, marked_count, Meaning, looked, Situation, Outcome, filed_rec, both_ways, and_from, or_left, or_right, has_number, all_up_has, same_tests, is_linked, words_told, file_told, among_from_number, number_from_among, known, one_number, words, numbers_where, with_words_old, same_words, changed}
@@ -42,7 +42,7 @@ use Rattle.lis_store.proofs.Told.{retold, few_with}
 use Rattle.lis_store.specs.ReplacingIn.{AreInForm}
 use Rattle.lis_laws.proofs.Forms as forms
 
--- ---- the axiom, and descriptions that have its left word made anew
+-- ---- the axiom, and the descriptions that have its left word, rebuilt
 -- the axiom leads from the one number to the other
 pub record IsLinked (left right : List ℕ) (from to : ℕ) (k linked : Metadata) : Type 0 where
   pub sound : AreSound k
@@ -54,7 +54,7 @@ pub record IsLinked (left right : List ℕ) (from to : ℕ) (k linked : Metadata
   pub links : Links from to k linked
   pub sound_then : AreSound linked
 
--- the descriptions that have its left word are made anew
+-- the descriptions that have its left word are rebuilt
 abbrev pub of_all : Metadata → ℕ → ℕ → List ℕ
 of_all k from = base_at k (Having from)
 
@@ -86,7 +86,7 @@ module _ {left right : List ℕ} {from to : ℕ} {k linked : Metadata} (l : IsLi
   has_same : (n slot : ℕ) → has linked.ext n slot ≡ has k.ext n slot
   has_same n slot = ap (λ (e : Ext). has e n slot) ext_same
 
-  -- what a number entails then it did, or it leads to the left word, and the right one entails it
+  -- what a number then entails it entailed before, or the right word entails it
   reach : (a n : ℕ) → is_entailed linked a n ≡ true → (is_entailed k a n ≡ true) ⊎ (is_entailed k to n ≡ true)
   reach a n is =
       let e = led linked a n is in
@@ -107,7 +107,7 @@ module _ {left right : List ℕ} {from to : ℕ} {k linked : Metadata} (l : IsLi
       same_some : {x y : List ℕ} → Some x ≡ Some y → x ≡ y
       same_some {x} {y} e = same_Some x y e
 
-  -- ---- a description with the left word, made anew
+  -- ---- a description with the left word, rebuilt
   in_base : (n slot : ℕ) → has k.ext n slot ≡ true → Among (of_all linked from slot) n
   in_base n slot had = filter_among (λ _. true) (numbers_at linked.ext slot) n (among_from_number (numbers_at linked.ext slot) n (has_same n slot ∙ had)) refl
 
@@ -127,7 +127,7 @@ module _ {left right : List ℕ} {from to : ℕ} {k linked : Metadata} (l : IsLi
   pub closure_up : (n slot : ℕ) → has k.ext from slot ≡ true → is_entailed k to n ≡ true → has_number (closure linked (of_all linked from slot)) n ≡ true
   closure_up n slot had is = in_closure linked l.sound_then (of_all linked from slot) from n (in_base from slot had) (left_leads n is)
 
-  -- it tells the description of the file with the axiom
+  -- it represents the description of the file with the axiom
   pub linked_told : (slot : ℕ) (file : File) → words_told k.dict (numbers_at k.ext slot) ≡ file_words D A file
       → words_told linked.dict (closure linked (of_all linked from slot)) ≡ file_words D (with_axiom A (left, right)) file
   linked_told slot file told =
@@ -186,11 +186,11 @@ module _ {left right : List ℕ} {from to : ℕ} {k linked : Metadata} (l : IsLi
         let then_is : Metadata = record linked { ext = q.ext; marks = q.marks } in
         use_stays linked then_is n (λ bit. bit) (λ lefts. lefts) (λ slot was. used_had then_is n slot (had_linked n slot (sym (has_same n slot) ∙ was)))
 
-    -- a row turns only of what the right word entails
+    -- a row changes only for a number that the right word entails
     pub turned_linked : (slot n : ℕ) → differs (numbers_at linked.ext slot) (closure linked (of_all linked from slot)) n ≡ true → is_entailed k to n ≡ true
     turned_linked slot n turned = search (rules, turned_cases, both_ways, has_same, closure_cases, closure_had)
 
--- ---- what an axiom that may come allows memory
+-- ---- what memory allows if an axiom may be added
 -- ---- the two words
 module _ {k : Metadata} {left right : List ℕ} (may : MayRelate k left right) where
   head_known : (word : List ℕ) → is_known_head (declared_of k) word ≡ true → (is_head word ≡ true) × ((is_some (number_of k.dict word) || is_built_in word) ≡ true)
@@ -288,7 +288,7 @@ module _ {k : Metadata} {left right : List ℕ} (may : MayRelate k left right) w
             let same = same_Some word.0 left (sym (learns.keeps from word.0 word.1) ∙ left_named) in
             number_from_word k.dict sound.dict left from (word.1 ∙ ap Some same)
 
-        -- the words that are learnt are none that the right word entails
+        -- the right word entails none of the words that get numbers
         entailed_before : (n : ℕ) → is_entailed learnt to n ≡ true → entails_number k right n ≡ true
         entailed_before n is =
             let e = led learnt to n is in
@@ -300,7 +300,7 @@ module _ {k : Metadata} {left right : List ℕ} (may : MayRelate k left right) w
             let same = one_number learnt after there.0 n e.to (learns.keeps there.0 e.to there.1) e.is_to in
             of_one (up (declared_of k) (axioms_of k) right) (word_of k.dict n) e.to (subst (λ i. word_of k.dict i ≡ Some e.to) same there.1) reached
 
-        -- no description gets too large
+        -- no description becomes too large
         pub few_linked : (slot : ℕ) → has linked.ext from slot ≡ true → length (closure linked (of_all linked from slot)) ≤ 128
         few_linked slot had =
             let had_before : has k.ext from slot ≡ true = ap (λ (e : Ext). has e from slot) (sym ext_learnt) ∙ (ap (λ (x : Metadata). has x.ext from slot) (sym links.metadata) ∙ had) in
@@ -318,8 +318,8 @@ module _ {k : Metadata} {left right : List ℕ} (may : MayRelate k left right) w
                 where_among k.ext.props (λ i. has k.ext i slot || is_gained_by k (right ∷ []) i) n lt
                 (or_right (has k.ext n slot) (is_gained_by k (right ∷ []) n) (or_left (entails_number k right n) false (entailed_before n up_so)))
 
--- ---- what it comes to
--- no more words are told than there are numbers
+-- ---- what adding it gives
+-- there are at most as many words as numbers
 pub told_few : (d : Dict) (ns : List ℕ) → length (words_told d ns) ≤ length ns
 told_few d ns = omega (arith, few_with [] (flat_map (λ n. option_to_list (word_of d n)) ns), flat_few ns)
   where
@@ -331,7 +331,7 @@ told_few d ns = omega (arith, few_with [] (flat_map (λ n. option_to_list (word_
     flat_few [] = omega arith
     flat_few (m ∷ ms) = omega (arith, flat_few ms, one (word_of d m), length-append (option_to_list (word_of d m)) (flat_map (λ n. option_to_list (word_of d n)) ms))
 
--- a word and its head are two words at most
+-- a word and its head are at most two words
 behind_few : (word : List ℕ) → length (behind_head word) ≤ 2
 behind_few word = by (is_valued word)
   where
@@ -398,7 +398,7 @@ module _ {old : Stored} {q : Metadata} {left right : List ℕ} (was : IsSound ol
   few_wide : (slot : ℕ) → has linked.ext from slot ≡ true → length (closure linked (of_all linked from slot)) ≤ 128
   few_wide = few_linked may relates.learns relates.sound relates.is_left relates.is_right relates.links sound relates.sound_linked was.free was.closed
 
-  -- what is kept at the end
+  -- the metadata at the end
   abbrev pub end : Metadata
   end = record p { dict = learnt.dict; axioms = slice_set p.axioms relates.links.slot (Pair from to); ext = q.ext; marks = q.marks }
 
@@ -483,7 +483,7 @@ module _ {old : Stored} {q : Metadata} {left right : List ℕ} (was : IsSound ol
       (tests_stay p more_words (λ at rec there. there) (λ n w is test. flagged_before p sound learnt.dict relates.learns.keeps n w (test_flagged more_words after n w is test) is)
       (λ n at rec w there before test. refl) was.tests)
 
-  -- ---- the store is in form again
+  -- ---- the store is well formed again
   form_end : AreSound end → AreInForm end
   form_end after = record {
     sound = after;
@@ -518,7 +518,7 @@ module _ {old : Stored} {q : Metadata} {left right : List ℕ} (was : IsSound ol
     edits = subst (λ (e : Ext). AreEditsFew e q.ext) ext_before (made_edits (is_rebuilt link relates.rebuilds));
   }
 
-  -- ---- the state that it tells
+  -- ---- the state that it represents
   module _ (at : ℕ → List ℕ) (s : State) (tells : Tells p at s) where
     abbrev t : State
     t = axiom_added s (left, right)

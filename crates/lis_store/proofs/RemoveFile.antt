@@ -1,4 +1,4 @@
--- A call that takes a file away.
+-- A call that removes a file.
 use Rattle.std.proofs.Common.{rules}
 use Rattle.lis_store.proofs.Common.{◌≡◌, sym, ap, ◌∙◌, subst, ℕ, is_some, not, IsSome, Bool, true, false, cond, List, set, Some, Result, Err, arith, Meaning, Held, looked, Asks, slot_of, rec_at, rec_at-slot_of, Ext, Formula, FileRecord, NoFileHere, bitmap_start, State, Situation, Outcome, refused, rm, file_removed, Metadata, IsSaved, changed, GivesBack}
 use Rattle.lis_store.specs.declared.change_fault.ChangeFault.{ChangeFault}
@@ -29,7 +29,7 @@ pub removed_refused : {T : Type 0} (old : Stored) (m : Meaning) (place : List Fo
     → result ≡ Err (Refused NoFileHere) → (base s : State) → StoreHolds old m base s → Holds base (record { state = s; place = place }) (rm (record { state = s; place = place }) name) old m m result
 removed_refused old m place name result sound none ends base s holds = search (rules, change_refused, here_told, told_held)
 
--- what is known where the disk fails while its blocks are asked for
+-- what is known if the disk fails while the blocks of the file are read
 given_err : (T : Type 0) (rec : FileRecord) (p q : Metadata) (journal : Held) (before after : Meaning) (change : ChangeFault) → ContentGiven {T = T} rec p q journal before after (Err change)
     → (change ≡ Disk) × (q ≡ p) × Asks journal before after
 given_err T rec p q journal before after change never = search (rules)
@@ -62,8 +62,8 @@ module _ (T : Type 0) (old : Stored) (slot : ℕ) (name : List ℕ) (sound : IsS
   pub lost_keeps : {U : Type 0} {now : Stored} {result : Result U ChangeFault} → old ≡ now → result ≡ Err change → ChangeKeeps now (record { metadata = q; journal = j; is_broken = b }) result
   lost_keeps view ends = keeps_lost view lost_sound (ends ∙ ap Err lost.0) (ap (λ (k : Metadata). k.limits) lost_metadata) (ap shape_of same) (ap (λ (k : Metadata). k.ext) lost_metadata) broken
 
--- ---- its blocks are given back, and then it is taken out
--- What a call asks speaks of the store's value `now`, and what is proved of its metadata, `old`.
+-- ---- its blocks are freed, and then it is removed
+-- What a call requires is about the store's value `now`, and what is proved is about its metadata, `old`.
 module _ {old now : Stored} (view : old ≡ now) (sound : IsSound old) (unbroken_now : now.is_broken ≡ false) (place : List Formula) (name : List ℕ) {slot : ℕ} (named : slot_of now.metadata.catalog name ≡ Some slot)
     (here_now : true ≡ is_among now.metadata place name) {mid : Metadata} {before asked : Meaning}
     (given : (rec : FileRecord) → rec_at old.metadata.catalog slot ≡ Some rec → GivesBack rec old.metadata mid old.journal before × Asks old.journal before asked) where

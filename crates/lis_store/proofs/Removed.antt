@@ -1,4 +1,4 @@
--- What a file that is taken out comes to.
+-- What removing a file gives.
 use Rattle.lis_store.proofs.Common.{◌≡◌, refl, sym, ap, ◌∙◌, subst, ℕ, ◌+◌, ◌<◌, ◌≤◌, Bool, List, [], length, set, arith, given, Ext, numbers_at, differs, FileRecord, State, file_removed, Metadata, IsSaved, marked_count, AreSound, blocks_told, Tells, numbers_where}
 use Rattle.lis_store.specs.Saving.{IsReady}
 use Rattle.lis_store.specs.ReplacingIn.{AreInForm}
@@ -50,8 +50,8 @@ module _ (slot : ℕ) (rec : FileRecord) (p q : Metadata) (form : AreInForm p) (
       let no_fewer = subst (λ (e : Ext). e.edits ≤ q.ext.edits) ext_is out.empties.no_fewer in
       edits_at p.ext q.ext slot numbers [] slot_in refl (set_gone p v slot rec form out.vacates q.ext q.marks sets_are) no_fewer made
 
--- ---- the state that it tells
--- Memory told s, and the blocks of the file in the slot are given back before it is taken out.
+-- ---- the state that it represents
+-- Memory represented s, and the blocks of the file in the slot are freed before the file is removed.
 pub ready_removed : (slot : ℕ) (rec : FileRecord) (o : Metadata) (taken marks : List Bool) (q : Metadata) (form : AreInForm (record o { taken = taken; marks = marks })) (out : TakesOut slot rec (record o { taken = taken; marks = marks }) q)
     → AreSound o → (at : ℕ → List ℕ) (s : State) → Tells o at s → taken ≡ given o.taken (blocks_told o.limits at rec) → IsSaved (record o { taken = taken; marks = marks }) at → IsReady q at (file_removed s rec.name)
 ready_removed slot rec o taken marks q form out sound at s tells gave saved =

@@ -1,4 +1,4 @@
--- Bytes that come into blocks in the place of others, and what the disk keeps meanwhile.
+-- Bytes that are put into blocks instead of others, and what the disk keeps meanwhile.
 use Rattle.std.proofs.Common.{rules}
 use Rattle.std.proofs.Common.{OnErr}
 use Rattle.lis_store.proofs.Common.{◌≡◌, refl, sym, ap, ◌∙◌, subst, ℕ, true, false, Bool, List, [], ◌∷◌, length, Some, None, Result, Ok, Err, IsTrue, set, get_or-set_same, arith, both_ways, false_from_ne_true, ArrayVec, Meaning, Leaves, Held, block, looked, Fits, KeepsPast, are_free, has_home, is_large, Asks, homes_of, stays_marked, among_homes, FileRecord, bitmap_start, data_start, Metadata, is_marked, AreSound, blocks_told, Puts, leaves_weaken, leaves_then, is_among, given, marked, GivesBack}
@@ -25,7 +25,7 @@ pub stands_homes : (layout : Layout) (base : ℕ) (placed some : List ℕ) (kept
     → StandsBut layout placed kept image → StandsBut layout (homes_of base some) kept image
 stands_homes layout base placed some kept image homes but = search (rules, stands_less, false_from_ne_true, both_ways, among_homes)
 
--- with nothing placed, an image stands for what is kept
+-- if nothing is placed, an image represents what is kept
 unplaced_stands : (journal : Held) {m : Meaning} {kept : ℕ → List ℕ} (more : List ℕ) → journal.placed ≡ [] → Fits journal m kept → (image : List ℕ) → m.images image → StandsBut journal.layout more kept image
 unplaced_stands journal {m} {kept} more none fits image is =
     stands_less journal.layout journal.placed more kept image (λ n absent. ap (λ ns. is_among ns n) none) (fits_but journal fits image is)
@@ -46,7 +46,7 @@ module _ (p mid q : Metadata) (sound : AreSound p) (ts us : List Bool) (one : Ta
       ap (λ (x : Metadata). is_marked x (bitmap_start p.limits)) two.metadata
       ∙ stays_marked mid.marks (bitmap_start mid.limits ∷ []) (bitmap_start p.limits) (marked_bitmap p mid sound ts one)
 
--- ---- no blocks are given back
+-- ---- no blocks are freed
 pub renews_alone : (p q : Metadata) (bytes numbers : List ℕ) (old new : Held) (before after : Meaning) → AreSound p → Puts bytes numbers p q old new before after → Renews bytes numbers None p q old new before after
 renews_alone p q bytes numbers old new before after sound puts = record {
   metadata = subst (λ (x : Metadata). x ≡ record p { taken = x.taken; marks = x.marks }) (sym puts.takes.metadata) refl;
@@ -72,7 +72,7 @@ pub put_alone : (p q : Metadata) (bytes : List ℕ) (old new : Held) (before aft
     → ContentRenewed bytes None p q old new before after result
 put_alone p q bytes old new before after result sound puts = search (rules, renews_alone)
 
--- ---- the blocks of the other file are given back first
+-- ---- the blocks of the other file are freed first
 module _ (p q : Metadata) (ts ms : List Bool) (rec : FileRecord) (bytes numbers : List ℕ) (old new : Held) (before asked after : Meaning) (sound : AreSound p) (unplaced : old.placed ≡ []) (small : is_large (length bytes) ≡ false)
     (gives : GivesBack rec p (record p { taken = ts; marks = ms }) old before) (asks : Asks old before asked) (puts : Puts bytes numbers (record p { taken = ts; marks = ms }) q old new asked after) where
   abbrev freed : Metadata
@@ -126,7 +126,7 @@ module _ (p : Metadata) (ts ms : List Bool) (bytes numbers : List ℕ) (old new 
   abbrev put : Metadata
   put = record p { taken = ts; marks = ms }
 
-  -- what is asked leaves the images of then
+  -- what is read leaves the images as they are then
   asked_stands : (kept : ℕ → List ℕ) → Fits old before kept → (image : List ℕ) → placed.images image → StandsBut old.layout new.placed kept image
   asked_stands kept fits image is =
       let lands = puts.lands kept fits in
@@ -140,7 +140,7 @@ module _ (p : Metadata) (ts ms : List Bool) (bytes numbers : List ℕ) (old new 
   last_past : (kept : ℕ → List ℕ) → Fits old before kept → KeepsPast old.layout.blocks before after
   last_past kept fits n le = ap (block n) (asks.reads.same (puts.lands kept fits).fits.honest).bytes ∙ puts.fills.past kept fits n le
 
-  -- blocks that are not given back then
+  -- the blocks are then not freed
   pub torn_last : ContentTorn bytes p put old new before after
   torn_last = by (is_large (length bytes)) refl
     where
@@ -177,7 +177,7 @@ module _ (p : Metadata) (ts ms : List Bool) (bytes numbers : List ℕ) (old new 
     pub renews_last : Renews bytes numbers (Some rec) p q old new before after
     renews_last = search (rules, twice_metadata, twice_marks, twice_bitmap, last_moments, last_past, last_renewed)
 
--- ---- blocks that are not given back at all
+-- ---- the blocks are not freed at all
 pub torn_first : (bytes : List ℕ) (p : Metadata) (old : Held) (before after : Meaning) → old.placed ≡ [] → Asks old before after → ContentTorn bytes p p old old before after
 torn_first bytes p old before after unplaced asks = search (rules, leaves_weaken, unplaced_stands)
 
@@ -217,7 +217,7 @@ pub lost_first : (T : Type 0) (p q : Metadata) (rec : FileRecord) (bytes : List 
     → ContentGiven {T = T} rec p q old before after (Err change) → result ≡ Err change → ContentRenewed bytes (Some rec) p q old old before after result
 lost_first T p q rec bytes old before after change result unplaced gave ends = search (rules, torn_first)
 
--- a put of a content that is not large fails never
+-- a put of a content that is not large never fails
 pub put_last : (p mid q : Metadata) (rec : FileRecord) (bytes : List ℕ) (old new : Held) (before asked after : Meaning) (result : Result (ArrayVec ℕ) ChangeFault) → AreSound p → old.placed ≡ [] → is_large (length bytes) ≡ false
     → GivesBack rec p mid old before → Asks old before asked → ContentPut bytes mid q old new asked after result → OnErr result (is_large (length bytes) ≡ true) → ContentRenewed bytes (Some rec) p q old new before after result
 put_last p mid q rec bytes old new before asked after result sound unplaced small gives asks put torn = by result put torn

@@ -1,4 +1,4 @@
--- Calls in which a file comes into a free slot, or takes the place of another.
+-- Calls in which a file is put into a free slot, or replaces another.
 use Rattle.std.proofs.Common.{rules}
 use Rattle.lis_store.proofs.Common.{◌≡◌, refl, sym, ap, ◌∙◌, subst, ℕ, ◌+◌, ◌≤◌, ◌==◌, ◌&&◌, not, nat_lt, is_some, true, false, Bool, IsSome, IfSome, List, [], length, Option, Some, None, Result, arith, list_all, and_parts, eqb-true, Meaning, Held, Fits, KeepsPast, looked, Filed, slot_of, rec_at, is_large, word_of, same_word, FileRecord, are_blocks, is_record, Limits, bitmap_start, data_start, State, File, blocks_taken, used_blocks, derived_words, new_file, file_added, file_removed, file_replaced, file_limit, Situation, Outcome, same_word_decides, Metadata, IsSaved, is_marked, marked_count, is_sound_record, AreSound, bytes_told, blocks_told, Tells, record_in_form, filed_at_slot, among_from_any, leaves_weaken, StandsBut, changed, file_told, size_fits}
 use Rattle.lis_catalog.proofs.Laws.{slot_of-rec_at}
@@ -32,7 +32,7 @@ use Rattle.lis_kept.proofs.Image.{same_layout, same_blocks, same_staged}
 may_retaken : (p : Metadata) (taken marks : List Bool) (slot : ℕ) (rec : FileRecord) (draft : Draft) → MayReplace p slot rec draft → MayReplace (retaken p taken marks) slot rec draft
 may_retaken p taken marks slot rec draft may = search (rules)
 
--- a file that may be put into a slot may be where other blocks are taken
+-- a file that may be put into a slot may be put there whatever blocks are taken
 put_retaken : (p : Metadata) (taken marks : List Bool) (slot : Option ℕ) (draft : Draft) → MayPut p slot draft → MayPut (retaken p taken marks) slot draft
 put_retaken p taken marks slot draft may = search (rules, retaken, may_retaken)
 
@@ -42,7 +42,7 @@ put_small p slot draft may = search (rules)
 record_retaken : (p : Metadata) (taken marks : List Bool) (slot : Option ℕ) → record_in (retaken p taken marks) slot ≡ record_in p slot
 record_retaken p taken marks slot = search (rules)
 
--- ---- memory tells the next state, from wherever the bytes come
+-- ---- memory represents the next state, wherever the bytes come from
 module _ (old : Stored) (taken marks : List Bool) (q : Metadata) (j : Held) (gone : Option FileRecord) (draft : Draft) (numbers : List ℕ) (sound : IsSound old) (sound_p : AreSound (retaken old.metadata taken marks))
     (again : RefilesIn gone draft numbers (retaken old.metadata taken marks) q) where
   abbrev o : Metadata
@@ -111,7 +111,7 @@ anew_there {old} same slot draft may = may_there slot old.metadata draft (subst 
 pub anew_small : {old now : Stored} → old ≡ now → (slot : Option ℕ) (draft : Draft) → MayPut now.metadata slot draft → draft.size ≤ file_limit old.metadata.limits.version
 anew_small {old} same slot draft may = put_small old.metadata slot draft (subst (λ (o : Stored). MayPut o.metadata slot draft) (sym same) may)
 
--- What a call asks speaks of the store's value `now`, and what is proved of its metadata, `old`.
+-- What a call requires is about the store's value `now`, and what is proved is about its metadata, `old`.
 module _ {old now : Stored} (same : old ≡ now) {mid : Metadata} {j : Held} (slot : Option ℕ) (name : List ℕ) (assigned : List (List ℕ)) (bytes numbers : List ℕ) (sound : IsSound old) (sound_mid : AreSound mid)
     (asked : MayPut now.metadata slot (draft_of (new_file name assigned bytes))) {before placed : Meaning} (renews : Renews bytes numbers (record_in old.metadata slot) old.metadata mid old.journal j before placed) where
   abbrev k : Metadata
@@ -132,7 +132,7 @@ module _ {old now : Stored} (same : old ≡ now) {mid : Metadata} {j : Held} (sl
   sound_renewed : AreSound renewed
   sound_renewed = subst (λ (x : Metadata). AreSound x) renews.metadata sound_mid
 
-  -- what is asked of the metadata then
+  -- what is required of the metadata then
   pub mid_form : AreInForm mid
   mid_form = subst (λ (x : Metadata). AreInForm x) (sym renews.metadata) (form_retaken k mid.taken mid.marks sound_renewed (in_form old sound))
 
@@ -190,7 +190,7 @@ module _ {old now : Stored} (same : old ≡ now) {mid : Metadata} {j : Held} (sl
             omega (arith, some, sound.few unbroken, renews.few_staged, renews.marks.few, none_marked k (sound.clean unbroken), ap (λ (x : Metadata). marked_count x) renews.metadata, same_staged (renews.image ∙ sound.image));
       }
 
-    -- from a state that memory told
+    -- from a state that memory represented
     module _ (base : State) (was : Situation) (holds : StoreHolds old before base was.state) where
       abbrev s : State
       s = was.state
@@ -207,7 +207,7 @@ module _ {old now : Stored} (same : old ≡ now) {mid : Metadata} {j : Held} (sl
       saved_at : IsSaved renewed at
       saved_at = subst (λ (x : Metadata). IsSaved x at) renews.metadata (renews.marks.saved at (λ area n lt unmarked. holds.written area n lt))
 
-      -- a file that goes stands in a slot
+      -- a file that is removed is in a slot
       gone_slot : (o : Option ℕ) (rec : FileRecord) → record_in k o ≡ Some rec → (n : ℕ) × (rec_at k.catalog n ≡ Some rec)
       gone_slot None rec is = absurd cc
       gone_slot (Some n) rec is = (n, is)
@@ -222,7 +222,7 @@ module _ {old now : Stored} (same : old ≡ now) {mid : Metadata} {j : Held} (sl
               trades_housed k sound.metadata at then_at s holds.tells (record { slot = found.0; rec = rec }) (filed_at_slot k.catalog sound.metadata.catalog found.0 rec found.1) mid.taken renews.blocks bytes numbers renews.distinct
               comes.lands.holds comes.lands.same trades
 
-      -- its blocks are enough
+      -- there are enough blocks for it
       room : blocks_taken k.limits.version (length bytes) ≤ free_for k goes
           → used_blocks (file_gone s goes) + blocks_taken (file_gone s goes).limits.version (length bytes) ≤ (file_gone s goes).limits.blocks
       room enough = by goes refl enough
@@ -238,7 +238,7 @@ module _ {old now : Stored} (same : old ≡ now) {mid : Metadata} {j : Held} (sl
               room_without old s sound holds.tells found.0 rec found.1 (length bytes)
               (written_enough old s sound fits rec.name found.0 rec (slot_of-rec_at k.catalog found.0 rec sound.metadata.catalog found.1) found.1 (length bytes) free)
 
-      -- what is kept but for placed blocks stands for the base
+      -- what is kept, except placed blocks, represents the base
       module _ (alone : is_large (length bytes) ≡ true → old.journal.staged ≡ []) where
         stands_old : (image : List ℕ) → StandsBut old.journal.layout j.placed holds.kept image → Stands image base
         stands_old =
@@ -248,7 +248,7 @@ module _ {old now : Stored} (same : old ≡ now) {mid : Metadata} {j : Held} (sl
         stands_then image but =
             stands_old image (stands_same old.journal.layout j.placed comes.lands.kept holds.kept image comes.stays (subst (λ l. StandsBut l j.placed comes.lands.kept image) (same_layout renews.image) but))
 
-        -- where its blocks are enough
+        -- if there are enough blocks for it
         replaces : {T : Type 0} (new : Stored) (after : Meaning) (result : Result T ChangeFault) → blocks_taken k.limits.version (length bytes) ≤ free_for k goes → Saves q j new placed after result
             → Holds base was (changed was (file_added (file_gone s goes) file)) new before after result
         replaces new after result enough saves =
@@ -307,7 +307,7 @@ module _ {old now : Stored} (same : old ≡ now) (sound : IsSound old) (unbroken
     edits = replaced_edits old old_metadata.taken old_metadata.marks q old.journal gone draft numbers sound sound.metadata refiled;
   }
 
--- where the bytes of the file that was there are these
+-- if the bytes of the file that was there are these
 pub refiled_holds : (old : Stored) (q : Metadata) (slot : ℕ) (file : File) (own : List (List ℕ)) (rec : FileRecord) (sound : IsSound old) → old.is_broken ≡ false → rec_at old.metadata.catalog slot ≡ Some rec → RefilesIn (Some rec) (with_own file own) rec.blocks old.metadata q
     → {T : Type 0} (base : State) (now : Situation) (new : Stored) (before after : Meaning) (result : Result T ChangeFault) (outcome : Outcome) (holds : StoreHolds old before base now.state)
     → AreOwnWords now.state.declared now.state.axioms own file → outcome ≡ changed now (file_replaced now.state rec.name file) → bytes_told old.metadata.limits (looked old.journal.staged holds.kept) rec ≡ file.bytes

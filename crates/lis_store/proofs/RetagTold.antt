@@ -1,4 +1,4 @@
--- The row of `mv`, told by what a store keeps, is the row of the state; and what holds where it refuses nothing.
+-- The row of `mv`: by what a store keeps it is the row of the state. Also what holds if it refuses nothing.
 use Rattle.lis_store.proofs.Common.{◌≡◌, refl, sym, ap, ap₂, ◌∙◌, ℕ, ◌≤◌, nat_lt, Bool, true, false, not, cond, ◌&&◌, is_some, option_to_list, Some, None, List, [], ◌∷◌, ◌++◌, length, filter, arith, list_any, list_all, flat_map, ltb-false, not-false, IsStrictlySortedBy-filter, slot_of, rec_at, word_of, FileRecord, among_filter, Formula, resolved, text_words, word_cmp, has_word, is_file_name, is_built_in, is_head, Refusal, UnknownProperty, NoFileHere, State, File, is_assignable, place_words, new_file, file_replaced, Situation, refused, retagged, mv, word_order, sorted_set_of, sorted_with_words, rising_from_sorted, file_of_name, Metadata, declared_of, and_from, both_ways, file_of, changed, tags_at, all_among, all_from, words_told}
 use Rattle.lis_grammar.specs.Places.Resolution.{NewPlace}
 use Rattle.lis_model.specs.declared.refusal.Refusal.TheVariants.{NotAPlace, NotAssignable, TooManyAssigned, BuiltIn}
@@ -19,7 +19,7 @@ use Rattle.lis_store.proofs.Judged.{same_behind, judged_refused, judged_done, al
 use Rattle.lis_store.proofs.Admitted.{declared_are}
 use Rattle.lis_store.proofs.Assigned.{all_with}
 
--- ---- the words that the file is given
+-- ---- the words that the file gets
 moved_pass : (test : List ℕ → Bool) (given here next : List (List ℕ)) → list_all test given ≡ true → list_all test next ≡ true → list_all test (retagged given here next) ≡ true
 moved_pass test given here next old new =
     let left = filter (λ word. not (has_word here word)) given in
@@ -45,7 +45,7 @@ module _ (k : Stored) (s : State) (sound : IsSound k) (fits : ToldBy k s) (place
   abbrev moved : List Formula → Draft
   moved next = moved_draft kept slot rec place next name
 
-  -- the checks that the words that would be known do not matter for
+  -- the checks for which the words that would be known do not matter
   abbrev front : List Formula → List (List ℕ) → List (List ℕ) → List (List ℕ) → List (Bool × Refusal)
   front next words declared given =
       (not (is_some (place_words place) && is_some (place_words next)), NotAPlace)
@@ -75,7 +75,7 @@ module _ (k : Stored) (s : State) (sound : IsSound k) (fits : ToldBy k s) (place
       (given_assignable k sound slot rec at.1 fits.kept s fits.tells) (not-false (list_all (is_assignable (declared_of kept)) (tags_at next)) passes.1.1.1.0)) [] [] refl)
       ∙ ap₂ (λ declared ws. first_refusal (front next words declared ws ++ room_checks made)) (declared_are k s sound fits) (sym was))
 
-  -- what `mv` comes to, where the text leads to a place
+  -- what `mv` gives, if the text leads to a place
   abbrev moved_state : List Formula → State
   moved_state next = file_replaced s old.name (new_of next)
 

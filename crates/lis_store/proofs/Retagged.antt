@@ -1,4 +1,4 @@
--- What a file is refused for that would move to another place, as the calls ask it.
+-- What a file is refused for that would move to another place, as the calls check it.
 use Rattle.lis_store.proofs.Common.{◌≡◌, refl, sym, ap, ap₂, ◌∙◌, inl, inr, ◌⊎◌, ℕ, ◌<◌, Bool, true, false, not, cond, ◌||◌, IsSome, List, [], ◌∷◌, ◌++◌, length, filter, take, get_or, ◌+◌, arith, list_any, flat_map, IsStrictlySortedBy, list_any-append, IsStrictlySortedBy-filter, Among, word_cmp, same_word, has_word, Formula, Node, nodes_of, with_words, place_words, retagged, among_with_words, with_words_new, among_set_of, sorted_with_words, leb-false, set_of, tags_at, with_words_old, set_of_among, same_words}
 use Rattle.std.proofs.lemmas.List.Elements.{filter_more}
 use Rattle.lis_laws.proofs.Locals.{filter_same}

@@ -1,4 +1,4 @@
--- Memory in form, where other blocks are taken and where nothing is marked, and stores over it.
+-- Well-formed memory with other taken blocks and without marks, and stores over it.
 use Rattle.lis_store.proofs.Common.{rules, ◌≡◌, refl, sym, ap, ◌∙◌, ℕ, ◌≤◌, Bool, true, false, Some, List, [], length, replicate, IsTrue, arith, length-replicate, slice_get, Pair, Held, are_whole, data_start, Metadata, AreSound}
 use Rattle.lis_kept.specs.Sound.{IsSoundAxiom}
 use Rattle.lis_store.specs.Stored.{Stored, PairsAreApart, IsSound}
@@ -7,7 +7,7 @@ use Rattle.lis_store.specs.ReplacingIn.{AreInForm}
 use Rattle.lis_journal.specs.Journal.{shape_of}
 use Rattle.lis_kept.specs.Image.{image_shape}
 
--- ---- where other blocks are taken
+-- ---- with other taken blocks
 module _ (p : Metadata) (taken marks : List Bool) where
   abbrev pub retaken : Metadata
   retaken = record p { taken = taken; marks = marks }
@@ -29,16 +29,16 @@ form_clean k form =
     let unset = replicate (length k.marks) false in
     form_retaken k k.taken unset (sound_retaken k k.taken unset form.sound refl (length-replicate (length k.marks) false)) form
 
--- ---- stores in form
+-- ---- well-formed stores
 pub in_form : (k : Stored) → IsSound k → AreInForm k.metadata
 in_form k sound = record { sound = sound.metadata; free = sound.free; closed = sound.closed; short = sound.short; in_use = sound.in_use; tests = sound.tests }
 
--- one at rest
+-- a store between calls
 pub sound_at : (q : Metadata) (j : Held) (b : Bool) → AreInForm q → PairsAreApart q → shape_of j ≡ image_shape q.limits → j.is_broken ≡ false → length j.staged ≤ 44 → IsTrue (are_whole j.staged) → j.placed ≡ []
     → q.marks ≡ replicate (length q.marks) false → IsSound (record { metadata = q; journal = j; is_broken = b })
 sound_at q j b form pairs image unbroken few whole placed unmarked = assumption
 
--- and one that is broken
+-- and a broken store
 pub sound_lost : (q : Metadata) (j : Held) → AreInForm q → PairsAreApart q → shape_of j ≡ image_shape q.limits → IsSound (record { metadata = q; journal = j; is_broken = true })
 sound_lost q j form pairs image = search rules
 

@@ -31,7 +31,7 @@ module _ (p : Metadata) (j x : Held) (settles : IsSound (settled p j)) (image : 
       subst (λ (k : Metadata). IsSound (record { metadata = k; journal = x; is_broken = b })) (sym is)
       (subst (λ c. IsSound (record { metadata = clean p; journal = x; is_broken = c })) (sym broken) (sound_lost (clean p) x (in_form (settled p j) settles) settles.pairs (image ∙ settles.image)))
 
-  -- behind a commit of more than nothing
+  -- after a commit of at least one block
   pub sound_committed : {T : Type 0} (mid : Held) (before after : Meaning) (q : Metadata) (b : Bool) (result : Result T ChangeFault) → q ≡ clean p → mid.is_broken ≡ false → 0 < length mid.staged
       → KeepsStaged mid x before after result → EndsUnrefused b result → IsSound (record { metadata = q; journal = x; is_broken = b })
   sound_committed mid before after q b (Ok done) is unbroken some keeps whole =
@@ -51,7 +51,7 @@ save_keeps old new sound is image ended = record {
 }
 
 -- ---- placed blocks
--- where none is, none is in the wrong place
+-- if none is placed, none is in a wrong position
 pub none_are_placed : (p : Metadata) (j : Held) → j.placed ≡ [] → ArePlaced p j
 none_are_placed p j none n among = absurd (let e : true ≡ false = sym among ∙ ap (λ ns. is_among ns n) none in cc)
 
@@ -59,7 +59,7 @@ none_are_placed p j none n among = absurd (let e : true ≡ false = sym among �
 pub not_placed : (p : Metadata) (j : Held) → ArePlaced p j → (n : ℕ) → n < data_start p.limits → is_among j.placed n ≡ false
 not_placed p j are n lt = false_from_ne_true (is_among j.placed n) (λ among. omega (arith, lt, (are n among).0))
 
--- Where so few blocks are staged that none of them needs a commit, none is placed: where one is, the block of the bitmap is staged.
+-- If at most `most` blocks are staged, none is placed: if one were placed, `most` would be 0 and the block of the bitmap staged.
 pub none_placed : (p : Metadata) (j mid : Held) (most : ℕ) → ArePlaced p j → Stages p j mid → (0 < most → j.placed ≡ []) → length mid.staged ≤ most → mid.placed ≡ []
 none_placed p j mid zero are stages some few = by j.placed refl
   where
@@ -71,7 +71,7 @@ none_placed p j mid zero are stages some few = by j.placed refl
         absurd (omega (arith, any, few))
 none_placed p j mid (suc most) are stages some few = stages.placed ∙ some (omega arith)
 
--- ---- what the metadata tells and spells without its marks
+-- ---- what the metadata represents and spells without its marks
 written_clean : (p : Metadata) (at : ℕ → List ℕ) → IsWritten p at → IsWritten (clean p) at
 written_clean p at written area n lt = search (rules)
 
@@ -115,11 +115,11 @@ module _ (p : Metadata) (j mid : Held) (before : Meaning) (stages : Stages p j m
   next_stands image stands =
       change_stands (settled p j) mid.layout there next settles.metadata settles.free settles.pairs tells written (same_layout (stages.image ∙ image_is)) image stands
 
-  -- held back: the disk stays
+  -- it is held back: the disk stays
   pub change_held : {T : Type 0} (q : Metadata) (b : Bool) (done : T) → q ≡ clean p → b ≡ false → Holds base now outcome (record { metadata = q; journal = mid; is_broken = b }) before before (Ok done)
   change_held {T = T} q b done metadata whole = search (rules, journal_fits, base_stands, stands_all_but, tells, written, leaves_none)
 
-  -- or committed
+  -- or it is committed
   module _ {T : Type 0} (x : Held) (after : Meaning) (result : Result T ChangeFault) (keeps : KeepsStaged mid x before after result) where
     moments : Leaves before after (λ image. (Stands image base ⊎ Stands image now.state) ⊎ Stands image next)
     moments = leaves_weaken (λ image. (Stands image base ⊎ Stands image now.state) ⊎ Stands image next) (keeps.moments kept journal_fits) by

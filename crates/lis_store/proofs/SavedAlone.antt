@@ -1,4 +1,4 @@
--- Calls that change memory alone before they are saved.
+-- Calls that change only memory before they are saved.
 use Rattle.std.proofs.Common.{arith}
 use Rattle.lis_store.proofs.Common.{◌≡◌, sym, ap, ◌∙◌, subst, ℕ, ◌+◌, ◌≤◌, false, List, length, Result, Meaning, looked, State, Situation, Outcome, Held, Metadata, AreSound, marked_count, StandsBut, changed}
 use Rattle.lis_store.specs.declared.change_fault.ChangeFault.{ChangeFault}
@@ -11,7 +11,7 @@ use Rattle.lis_store.proofs.Standing.{stands_none_but}
 use Rattle.lis_kept.specs.Image.{image_capacity, image_shape}
 use Rattle.lis_kept.proofs.Image.{same_staged}
 
--- What a change makes of the memory of a store, where the journal stays.
+-- What a change does to the memory of a store, if the journal stays.
 pub record IsChange (old : Stored) (q : Metadata) : Type 0 where
   pub settles : AreSound q → IsSound (settled q old.journal)
   pub limits : q.limits ≡ old.metadata.limits
@@ -33,7 +33,7 @@ module _ (old : Stored) (sound : IsSound old) (unbroken : old.is_broken ≡ fals
   pub unplaced_stands : (base s : State) (before : Meaning) (holds : StoreHolds old before base s) (image : List ℕ) → StandsBut old.journal.layout old.journal.placed holds.kept image → Stands image base
   unplaced_stands base s before holds image but = holds.stands image (stands_none_but old.journal.layout old.journal.placed holds.kept image (sound.placed unbroken) but)
 
-  -- what is kept by then as before, and tells the next state
+  -- what is kept by then is as before, and represents the next state
   pub saves_alone : {T : Type 0} {q : Metadata} {new : Stored} {before after : Meaning} {result : Result T ChangeFault} {base : State} {outcome : Outcome} → IsChange old q → Saves q old.journal new before after result
       → (now : Situation) (t : State) (holds : StoreHolds old before base now.state) → IsReady q (looked old.journal.staged holds.kept) t → outcome ≡ changed now t → Holds base now outcome new before after result
   saves_alone {before = before} {base = base} {outcome = outcome} change saves now t holds ready is =

@@ -1,4 +1,4 @@
--- What memory keeps when a file has come into a vacant slot.
+-- What memory keeps after a file is put into a vacant slot.
 use Rattle.std.proofs.Common.{rules}
 use Rattle.lis_store.proofs.Common.{◌≡◌, ◌⊎◌, refl, sym, ap, ap₂, ◌∙◌, subst, inl, inr, ℕ, zero, suc, if◌then◌else◌, Bool, true, false, List, [], length, get_or, set, Option, None, Some, is_some, arith, get_or-set_same, get_or-set_other, ◌++◌, cases_eq, ne_eqb, same_Some, Among, among_append, among_left, number_of, word_of, word_from_number, number_from_word, slot_of, rec_at, Ext, has, numbers_at, FileRecord, up, all_up, is_test, test_of, is_met, met_tests, up_from_entails, entailing, among_from_has_word, Metadata, block_of, AreSound, FreeSlotsAreEmpty, KeepsInUse, emptied, declared_of, axioms_of, is_used, AreUsed, test_by, link_named, named_all, some_number, used_flagged, used_had, both_ways, eq-eqb, false_from_ne_true, has_number, up_trans, entailed_in, has_word_from_among, is_linked, used_left}
 use Rattle.lis_catalog.specs.Catalog.{with_filed}
@@ -20,7 +20,7 @@ use Rattle.lis_store.proofs.Naming.{one_of, of_one, named_has, named_few}
 use Rattle.lis_store.proofs.PutIn.{heads_described, entailed_is, own_numbered, behind_itself}
 
 module _ {slot : ℕ} {old : List ℕ} {draft : Draft} {blocks : List ℕ} {v q : Metadata} (vacant : IsVacant slot old v) (may : MayComeIn v draft) (settles : SettlesIn slot draft blocks v q) where
-  -- what was kept, but for the description in the slot
+  -- the metadata before, without the description in the slot
   abbrev p : Metadata
   p = emptied v slot
 
@@ -36,7 +36,7 @@ module _ {slot : ℕ} {old : List ℕ} {draft : Draft} {blocks : List ℕ} {v q 
   abbrev pub rec : FileRecord
   rec = record_of (numbers_named l.dict draft.assigned) draft blocks
 
-  -- what is kept at the end
+  -- the metadata at the end
   abbrev last : Ext → List Bool → Metadata
   last ext marks = record v { dict = l.dict; catalog = with_filed v.catalog slot rec; ext = ext; marks = marks }
 
@@ -85,7 +85,7 @@ module _ {slot : ℕ} {old : List ℕ} {draft : Draft} {blocks : List ℕ} {v q 
   has_other n at differ = ap (λ ns. has_number ns n) (set_other at differ)
 
   -- ---- words
-  -- each word that is learnt is one of the description
+  -- each word that gets a number is in the description
   learnt_described : (word : List ℕ) → Among (with_heads (learnt_words draft)) word → Among words word
   learnt_described = heads_described vacant.sound may
 
@@ -119,7 +119,7 @@ module _ {slot : ℕ} {old : List ℕ} {draft : Draft} {blocks : List ℕ} {v q 
       from None is none = absurd (both_ways false refl none)
       from (Some word) is known = by word is (word_before v l (with_heads (learnt_words draft)) settles.own.learns vacant.sound settles.own.sound n word is)
 
-  -- the words that the file was given are words of its description
+  -- the words assigned to the file are words of its description
   given_word : (n : ℕ) → has_number rec.tags n ≡ true → (w : List ℕ) × (word_of l.dict n ≡ Some w) × Among draft.assigned w
   given_word n tag = one_of draft.assigned (word_of l.dict n) (sym (named_has l.dict sound_end.dict draft.assigned n) ∙ tag)
 
@@ -181,7 +181,7 @@ module _ {slot : ℕ} {old : List ℕ} {draft : Draft} {blocks : List ℕ} {v q 
   entailed_end : all_up (declared_of end) (axioms_of end) own ≡ words
   entailed_end = ap (λ (k : Metadata). described_by k draft) (sym settles.own.learns.metadata) ∙ entailed_is vacant.sound may settles.own.learns
 
-  -- of its own words the tests are declared, and the others are learnt
+  -- of its own words the tests are declared, and the others get numbers
   own_has_number : (w : List ℕ) → Among own w → (n : ℕ) × (word_of l.dict n ≡ Some w)
   own_has_number w m = by (among_append (learnt_words draft) (met_tests (declared_of end) draft.size) w m)
     where

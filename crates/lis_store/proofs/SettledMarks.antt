@@ -1,4 +1,4 @@
--- How much is marked when a file has come into a vacant slot, and how often rows are edited.
+-- How much is marked after a file is put into a vacant slot, and how often rows are edited.
 use Rattle.std.proofs.Common.{rules}
 use Rattle.lis_store.proofs.Common.{◌≡◌, sym, ap, ◌∙◌, subst, ℕ, ◌+◌, ◌<◌, ◌≤◌, Bool, true, List, [], ◌∷◌, length, set, map, count_by, arith, sum_by-set, is_taken, stays_marked, Ext, numbers_at, differs, Metadata, IsSaved, block_of, is_marked, marked_count, numbers_where, words, Files, Rows}
 use Rattle.lis_content.proofs.Numbers.{below_if_taken}

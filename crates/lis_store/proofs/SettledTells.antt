@@ -1,4 +1,4 @@
--- What memory tells when a file has come into a vacant slot.
+-- What memory represents after a file is put into a vacant slot.
 use Rattle.std.proofs.Common.{rules}
 use Rattle.lis_store.proofs.Common.{◌≡◌, ◌⊎◌, refl, sym, ap, ap₂, ◌∙◌, subst, inl, inr, ℕ, ◌+◌, ◌<◌, ◌≤◌, not, ◌&&◌, ◌||◌, Bool, true, false, List, [], ◌++◌, length, is_some, IsSome, arith, list_all, Contains, and_parts, or_cases, length-map, same_Some, Among, among_from_contains, contains_from_among, among_left, among_insert_key, insert_key_old, sorted_from_rising, is_taken, Filed, slot_of, rec_at, numbers_at, FileRecord, SpellsSuper, Limits, data_start, State, File, file_cmp, all_up, met_tests, description, is_assignable, file_limit, blocks_taken, used_blocks, new_file, file_added, word_order, sorted_all_up, among_from_has_word, Metadata, AreSound, emptied, declared_of, axioms_of, bytes_told, blocks_told, state_of, HasIndex, Tells, filed_rec, filed_slot, filed_at_slot, words_known, both_ways, or_left, or_right, and_from, false_from_ne_true, map_among, has_number, are_distinct, known, has_word_from_among, words_told, file_told, number_from_among}
 use Rattle.lis_content.proofs.Laying.{home_new}
@@ -18,7 +18,8 @@ use Rattle.lis_store.proofs.Settled.{end, end_is, rec, rec_here, set_here, set_o
 use Rattle.lis_store.proofs.Told.{words_same}
 use Rattle.lis_laws.proofs.Forms as forms
 
--- Memory without the description of the slot told s by what blocks hold. Then blocks hold the bytes of a file, which comes into the slot.
+-- Memory without the description of the slot represented s by what blocks hold. Then blocks hold the bytes of a file, which is put into the
+-- slot.
 module _ (file : File) (own : List (List ℕ)) {slot : ℕ} {old : List ℕ} {blocks : List ℕ} {v q : Metadata} (vacant : IsVacant slot old v) (may : MayComeIn v (with_own file own))
     (settles : SettlesIn slot (with_own file own) blocks v q) (was : List Bool) (sound_o : AreSound (record (emptied v slot) { taken = was })) {at there : ℕ → List ℕ} {s : State} (tells : Tells (record (emptied v slot) { taken = was }) at s)
     (are_own : AreOwnWords s.declared s.axioms own file) {held : List ℕ} (housed : IsHoused v.limits was v.taken [] held file.bytes blocks at there) where
@@ -101,7 +102,7 @@ module _ (file : File) (own : List (List ℕ)) {slot : ℕ} {old : List ℕ} {bl
   of_state : (other : File) → Among s.files other → (f : Filed) × Among o.catalog.entries f × (told f ≡ other)
   of_state = filed_of_file o at s sound_o vacant.form.free tells
 
-  -- what a filed record tells is the new file or an old one
+  -- a filed record represents the new file or an old one
   told_of : (f : Filed) → Contains k.catalog.entries f → (file ≡ told_then f) ⊎ Among s.files (told_then f)
   told_of f m =
       among_insert_key file_cmp s.files file (told_then f)

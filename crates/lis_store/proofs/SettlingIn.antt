@@ -1,4 +1,4 @@
--- What each step needs where a file comes into a vacant slot.
+-- What each step requires when a file is put into a vacant slot.
 use Rattle.lis_store.proofs.Common.{◌≡◌, ap, sym, ◌∙◌, ℕ, ◌<◌, nat_lt, true, List, [], length, None, is_some, IsSome, arith, get_or, get_or-set_same, list_all, slot_of, rec_at, word_of, has, numbers_at, are_blocks, Metadata, is_sound_record, Describes, has_number, all_among, among_from_number}
 use Rattle.lis_store.specs.Drafts.{Draft}
 use Rattle.lis_store.specs.Admitting.{described_by}

@@ -1,4 +1,4 @@
--- What slots hold, in the order of their numbers, has the parts of what a map's entries hold, in the order of its keys.
+-- What slots hold, in the order of their numbers, has the same parts as what a map's entries hold, in the order of its keys.
 use Rattle.std.proofs.Common.{eqb, append_assoc}
 use Rattle.lis_store.proofs.Common.{common_steps, ◌≡◌, refl, sym, ap, ◌∙◌, subst, inl, inr, ℕ, zero, suc, ◌+◌, ◌<◌, ◌≤◌, ◌==◌, true, false, not, cond, List, [], ◌∷◌, ◌++◌, map, Option, Some, None, IsTrue, arith, slice_get, find, flat_map, range_with_len, AllByRecursion, and_parts, not-true, not_from_false, ne_eqb, slice_get_within, get_or_from_slice_get, Among, among_from_contains, contains_from_among, flat_all, and_from, eq-eqb, has_number, are_distinct}
 use Rattle.std.specs.List.{IsDistinct}
@@ -12,7 +12,7 @@ use Rattle.lis_graph.proofs.Ranges.{among_range}
 use Rattle.lis_catalog.proofs.Slots.{turned}
 use Rattle.lis_kept.proofs.Filed.{each_once}
 
--- the k-th slot, where each is given by its number
+-- the k-th slot, if each is given by its number
 pub given_at : {X : Type 0} (f : ℕ → X) (n k : ℕ) (x : X) → slice_get (map f (range_with_len 0 n)) k ≡ Some x → (k < n) × (f k ≡ x)
 given_at f n k x is =
     let within : k < n = omega (arith, slice_get_within (map f (range_with_len 0 n)) k x is, length-map-range_with_len f 0 n) in
@@ -29,7 +29,7 @@ IsPermutation-same xs ys same = subst (IsPermutation xs) same (IsPermutation-ref
 pub permuted_among : {X : Type 0} (xs ys : List X) (x : X) → IsPermutation xs ys → Among xs x → Among ys x
 permuted_among xs ys x same m = among_from_contains ys x (Contains-permutation xs ys x same (contains_from_among xs x m))
 
--- the part of one element goes behind another part
+-- the part of one element is inserted after another part
 IsPermutation-behind : {X : Type 0} (xs ys zs all : List X) → IsPermutation (xs ++ zs) all → IsPermutation (xs ++ (ys ++ zs)) (ys ++ all)
 IsPermutation-behind xs ys zs all same =
     let first = IsPermutation-same (xs ++ (ys ++ zs)) ((xs ++ ys) ++ zs) (sym (append_assoc xs ys zs)) in
@@ -39,7 +39,7 @@ IsPermutation-behind xs ys zs all same =
     let moved = IsPermutation-trans (xs ++ (ys ++ zs)) ((ys ++ xs) ++ zs) (ys ++ (xs ++ zs)) front last in
     IsPermutation-trans (xs ++ (ys ++ zs)) (ys ++ (xs ++ zs)) (ys ++ all) moved (IsPermutation-append_right ys (xs ++ zs) all same)
 
--- ---- numbers that stand once
+-- ---- numbers that occur once
 eqb_flips : (a b : ℕ) → eqb a b ≡ eqb b a
 eqb_flips a b = grind (arith, common_steps, eq-eqb, ne_eqb)
 
@@ -61,7 +61,7 @@ slot_more : {X : Type 0} (g h : ℕ → List X) (k : ℕ) → g k ≡ [] → ((n
 slot_more g h k none same a zero low high = absurd (omega arith)
 slot_more g h k none same a (suc m) low high = grind (arith, common_steps, among_range, flat_all, IsPermutation-same, IsPermutation-behind, slot_more g h k none same (a + 1) m)
 
--- ---- what entries hold, each in a slot of its own
+-- ---- what entries hold, each in its own slot
 abbrev pub held : {E X : Type 0} → (E → List X) → Option E → List X
 held parts None = []
 held parts (Some e) = parts e

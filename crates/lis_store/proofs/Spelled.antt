@@ -1,4 +1,4 @@
--- What memory tells of a state, the slots and blocks that it spells tell too.
+-- What memory represents is what the slots and blocks that it spells represent.
 use Rattle.std.proofs.Common.{rules}
 use Rattle.std.proofs.Common.{option_map}
 use Rattle.lis_store.proofs.Common.{◌≡◌, ◌⊎◌, refl, sym, ap, ap₂, ◌∙◌, subst, inl, inr, ℕ, suc, ◌+◌, ◌/◌, ◌<◌, ◌≤◌, ◌==◌, ◌&&◌, nat_lt, Bool, true, false, is_some, Option, Some, None, option_to_list, List, [], ◌∷◌, ◌++◌, length, get_or, map, drop, replicate, slice_get, IsTrue, arith, append-nil, insert_key, find, flat_map, list_all, range_with_len, and_parts, ltb-true, lt-ltb, cases_lt, get_or_past, length-map, slice_get_within, get_or_from_slice_get, Among, among_from_contains, contains_from_among, among_filter, among_flat_map, range_among, sorted_from_rising, is_taken, number_of, word_of, number_from_word, number_below, Filed, rec_at, has, numbers_at, FileRecord, is_prop, is_record, AxiomSlot, FreeAxiom, Pair, has_word, State, File, pair_cmp, file_cmp, description, file_limit, all_weaker, sorted_known, word_order, pair_exact, among_set_of, sorted_set_of, Metadata, property_by, IsWritten, axiom_slots, Properties, Axioms, Bitmap, AreSound, FreeSlotsAreEmpty, bit_of, is_declared, declared_of, bytes_told, blocks_told, HasIndex, state_of, Tells, some_word, filed_rec, filed_at_slot, number_told, declared_word, declared_has_number, words_known, flat_all, and_from, false_from_ne_true, among_map, map_among, flat_map_among, marked, has_number, are_distinct, words, prop_bytes, axiom_bytes, file_bytes, set_of, known, all_among, all_from, set_of_among, same_words, same_tests, Files, Rows, words_told, file_told, among_from_number, one_number}
@@ -186,7 +186,7 @@ module _ (k : Metadata) (sound : AreSound k) where
       subst (λ xs. IsPermutation xs (all_records (files_told k))) (flat_map_single (λ (f : Filed). f.rec) k.catalog.entries)
       (subst (λ xs. IsPermutation (flat_map parts k.catalog.entries) xs) (sym here) (slot_order (λ (f : Filed). f.slot) parts k.limits.files k.catalog.entries sound.catalog.apart filed_in))
 
-  -- a record in a slot is that of an entry, and the other way round
+  -- a record in a slot is that of an entry, and vice versa
   recorded_entry : (rec : FileRecord) → Among (all_records (files_told k)) rec → (f : Filed) × Among k.catalog.entries f × (f.rec ≡ rec)
   recorded_entry rec m =
       among_map (λ (f : Filed). f.rec) k.catalog.entries rec
@@ -241,7 +241,7 @@ module _ (k : Metadata) (sound : AreSound k) where
       ∙ flat_all (λ n. all_blocks k.limits at (records_in (record_at k.catalog n))) (held_at (λ (f : Filed). f.slot) parts k.catalog.entries) slots (λ n m. blocks_once at (filed_at n))) in
       subst (λ xs. IsPermutation (used at) xs) (sym here) (slot_order (λ (f : Filed). f.slot) parts k.limits.files k.catalog.entries sound.catalog.apart filed_in)
 
--- ---- what is told is spelled
+-- ---- what memory represents is spelled
 module _ (k : Metadata) (at : ℕ → List ℕ) (sound : AreSound k) (free : FreeSlotsAreEmpty k) (pairs : PairsAreApart k) (written : IsWritten k at) (tells : Tells k at (state_of k at)) where
   abbrev s : State
   s = state_of k at
@@ -293,7 +293,7 @@ module _ (k : Metadata) (at : ℕ → List ℕ) (sound : AreSound k) (free : Fre
       ∙ (length-map k.catalog.entries (λ (f : Filed). f.rec)
       ∙ sym (length-map k.catalog.entries (file_told k.limits k.dict at)))
 
-  -- the pairs of some slots, each in its place among all of them
+  -- the pairs of some slots, each at its index among all of them
   pairs_apart : (xs : List AxiomSlot) (first : ℕ) → ((n : ℕ) (a : AxiomSlot) → slice_get xs n ≡ Some a → slice_get k.axioms (first + n) ≡ Some a) → AllApart (pairs_told k.dict xs)
   pairs_apart [] first there = tt
   pairs_apart (FreeAxiom ∷ xs) first there = pairs_apart xs (first + 1) (λ n a is. subst (λ m. slice_get k.axioms m ≡ Some a) (omega arith) (there (suc n) a is))
@@ -412,6 +412,6 @@ module _ (k : Metadata) (at : ℕ → List ℕ) (sound : AreSound k) (free : Fre
     rows = rows_are;
   }
 
--- the same, at the state that is told
+-- the same, for the state that memory represents
 pub tells_spells : (k : Metadata) (at : ℕ → List ℕ) (s : State) → AreSound k → FreeSlotsAreEmpty k → PairsAreApart k → IsWritten k at → Tells k at s → Spells s.limits (contents_of k) at s
 tells_spells k at s sound free pairs written tells = search (rules, spells_told)

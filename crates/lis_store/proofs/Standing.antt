@@ -1,4 +1,4 @@
--- What home blocks spell, the images with these blocks stand for.
+-- What home blocks spell is represented by the images with these blocks.
 use Rattle.std.proofs.Common.{rules}
 use Rattle.lis_store.proofs.Common.{◌≡◌, refl, ap, ◌∙◌, subst, ℕ, List, [], Option, Some, None, IsTrue, IsSomeAnd, arith, Meaning, block, replayed, are_free, homes_of, among_homes, SpellsSuper, data_start, State, Metadata, IsWritten, AreSound, FreeSlotsAreEmpty, Tells}
 use Rattle.lis_ports.specs.Runs.{Always}
@@ -13,7 +13,7 @@ use Rattle.lis_kept.specs.Image.{image_layout}
 use Rattle.lis_journal.specs.declared.layout.Layout.{Layout}
 use Rattle.lis_kept.proofs.Image.{same_layout}
 
--- What memory tells by these blocks, each image stands for that has a replayed image with them, whatever it has in blocks that are free.
+-- If memory represents a state by these blocks, so does each image whose replayed image has them, whatever it has in free blocks.
 module _ (k : Metadata) (at : ℕ → List ℕ) (s : State) (sound : AreSound k) (empty : FreeSlotsAreEmpty k) (pairs : PairsAreApart k) (tells : Tells k at s) (written : IsWritten k at)
     (blocks : List ℕ) (free : IsTrue (are_free k.taken blocks)) where
   abbrev placed : List ℕ
@@ -48,12 +48,12 @@ module _ (k : Metadata) (at : ℕ → List ℕ) (s : State) (sound : AreSound k)
   pub stands_but : (layout : Layout) → layout ≡ image_layout k.limits → (image : List ℕ) → StandsBut layout placed at image → Stands image s
   stands_but layout is image but = told_stands image (subst (λ l. StandsBut l placed at image) (is ∙ ap image_layout limits_are) but)
 
--- what keeps all blocks keeps all but some
+-- what keeps all blocks keeps all except some
 pub stands_all_but : (layout : Layout) (ns : List ℕ) (at : ℕ → List ℕ) (image : List ℕ) → KeptBy layout at image → StandsBut layout ns at image
 unfolding StandsBut KeptBy
 stands_all_but layout ns at image kept = search (rules)
 
--- and back, where there are none
+-- and the converse, if there are no exceptions
 pub stands_none_but : (layout : Layout) (ns : List ℕ) (at : ℕ → List ℕ) (image : List ℕ) → ns ≡ [] → StandsBut layout ns at image → KeptBy layout at image
 unfolding StandsBut KeptBy
 stands_none_but layout ns at image none but = search (rules)

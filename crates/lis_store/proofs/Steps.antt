@@ -1,4 +1,4 @@
--- Contents that are put or given back before a change is saved: what is kept then, and what images stand for meanwhile.
+-- Contents that are put or freed before a change is saved: what is kept then, and what images represent meanwhile.
 pub use Rattle.lis_store.proofs.Retaken.{sound_lost}
 use Rattle.lis_store.proofs.Common.{rules, ◌≡◌, ◌⊎◌, sym, ap, ◌∙◌, subst, inl, inr, ℕ, true, false, Bool, List, [], length, set, Result, Err, length-set, Meaning, Leaves, Held, KeepsPast, block, are_free, has_home, is_large, Asks, homes_of, among_homes, bitmap_start, data_start, image_blocks, State, Situation, Outcome, Metadata, leaves_weaken, leaves_then, StandsBut, is_among}
 use Rattle.lis_journal.proofs.Fitting.{fits_stand}
@@ -20,14 +20,14 @@ use Rattle.lis_kept.specs.Image.{image_shape}
 use Rattle.lis_kept.proofs.Image.{same_blocks}
 
 -- ---- memory
--- it is in form where other blocks are taken
+-- it is well formed whatever blocks are taken
 pub form_taken : (o mid : Metadata) (taken : List Bool) → Takes taken o mid → AreInForm o → AreInForm mid
 form_taken o mid taken takes form =
     let marks = set o.marks (bitmap_start o.limits) true in
     subst (λ (k : Metadata). AreInForm k) (sym takes.metadata)
     (form_retaken o taken marks (sound_retaken o taken marks form.sound takes.len (length-set o.marks (bitmap_start o.limits) true)) form)
 
--- pairs stay apart where the axioms stay
+-- pairs stay distinct if the axioms stay
 pub pairs_same : (o q : Metadata) → q.axioms ≡ o.axioms → PairsAreApart o → PairsAreApart q
 pairs_same o q same pairs slot other left right is also = search (rules)
 
@@ -36,12 +36,12 @@ pub small_or_alone : {X Y : Type 0} (size : ℕ) (placed : List X) (staged : Lis
 small_or_alone size placed staged small large = search (rules)
 
 -- ---- images
--- While the image stands for the base, a change is yet to begin.
+-- While the image represents the base, a change has not begun.
 pub holds_behind : {T : Type 0} (base : State) (now : Situation) (outcome : Outcome) (new : Stored) (before mid after : Meaning) (result : Result T ChangeFault)
     → Leaves before mid (λ image. Stands image base) → KeepsPast (image_blocks base.limits) before mid → Holds base now outcome new mid after result → Holds base now outcome new before after result
 holds_behind base now outcome new before mid after result first past holds = search (rules, leaves_then, leaves_weaken)
 
--- A change that the disk fails before it begins.
+-- The disk fails before a change begins.
 pub holds_lost : {T : Type 0} (base : State) (now : Situation) (outcome : Outcome) (new : Stored) (before after : Meaning) (result : Result T ChangeFault)
     → Leaves before after (λ image. Stands image base) → KeepsPast (image_blocks base.limits) before after → new.is_broken ≡ true → result ≡ Err Disk → Holds base now outcome new before after result
 holds_lost base now outcome new before after result first past broken ends = search (rules, leaves_weaken)
@@ -50,7 +50,7 @@ module _ (old : Stored) (base s : State) (before : Meaning) (sound : IsSound old
   image_is : shape_of old.journal ≡ image_shape base.limits
   image_is = sound.image ∙ ap image_shape holds.limits
 
-  -- while the disk is asked alone
+  -- while the disk is only read
   module _ (after : Meaning) (asks : Asks old.journal before after) where
     pub asks_stand : Leaves before after (λ image. Stands image base)
     asks_stand =
@@ -60,7 +60,7 @@ module _ (old : Stored) (base s : State) (before : Meaning) (sound : IsSound old
     pub asks_past : KeepsPast (image_blocks base.limits) before after
     asks_past n le = ap (block n) (asks.reads.same holds.journal.honest).bytes
 
-  -- What an image keeps but for spare blocks stands for the base, where none is placed or nothing is held back.
+  -- An image that keeps all but spare blocks represents the base, if none is placed or nothing is held back.
   module _ (blocks spare : List ℕ) (free : are_free old.metadata.taken spare ≡ true) (among : (n : ℕ) → is_among blocks n ≡ true → has_home (data_start old.metadata.limits) spare n ≡ true)
       (none : (blocks ≡ []) ⊎ (old.journal.staged ≡ [])) where
     pub but_stands : (image : List ℕ) → StandsBut old.journal.layout blocks holds.kept image → Stands image base
@@ -75,7 +75,7 @@ module _ (old : Stored) (base s : State) (before : Meaning) (sound : IsSound old
             subst (λ (t : State). Stands image t) same
             (placed_stand old holds.kept spare s sound fits.tells fits.written free image (stands_homes old.journal.layout (data_start old.metadata.limits) blocks spare holds.kept image among but))
 
-  -- where the disk fails while a content is put
+  -- if the disk fails while a content is put
   module _ (bytes : List ℕ) (mid : Metadata) (new : Held) (after : Meaning) (torn : ContentTorn bytes old.metadata mid old.journal new before after) (alone : is_large (length bytes) ≡ true → old.journal.staged ≡ []) where
     pub torn_stand : Leaves before after (λ image. Stands image base)
     torn_stand =

@@ -1,4 +1,4 @@
--- What a store says of the state that it tells, in other words.
+-- What a store says of the state that it represents, in other words.
 use Rattle.std.proofs.Common.{rules}
 use Rattle.std.proofs.Common.{option_map}
 use Rattle.lis_store.proofs.Common.{common_steps, ◌≡◌, refl, sym, ap, ap₂, ◌∙◌, subst, inl, inr, ℕ, ◌+◌, ◌*◌, ◌<◌, Bool, is_some, Option, Some, None, List, [], ◌∷◌, length, map, IsSomeAnd, arith, length-append, find, flat_map, list_any, Contains, length-map, length-take-le, same_Some, Among, contains_from_among, same_word, has_word, Formula, FileRecord, Dict, number_of, number_from_word, Filed, slot_of, rec_at, rec_at-slot_of, numbers_at, data_start, State, File, description, up, has_name, file_of_name, Placed, Metadata, AreSound, FreeSlotsAreEmpty, declared_of, axioms_of, bytes_told, blocks_told, state_of, Tells, filed_rec, filed_slot, filed_at_slot, map_all, known_word, words_known, among_map, map_among, words, known, file_of, words_told, file_told, number_from_among}
@@ -24,7 +24,7 @@ any_is_found test (x ∷ xs) = grind (arith, common_steps, any_is_found test xs)
 is_some-map : {X Y : Type 0} (v : X → Y) (o : Option X) → is_some (option_map v o) ≡ is_some o
 is_some-map v o = search (rules)
 
--- a word has a number exactly where it is one of the words
+-- a word has a number exactly if it is one of the words
 pub numbered : (d : Dict) (word : List ℕ) → has_word (words d) word ≡ is_some (number_of d word)
 numbered d word = grind (arith, common_steps, any_map, any_is_found, is_some-map)
 
@@ -34,7 +34,7 @@ length-whole at (n ∷ ns) whole =
     let rest = length-whole at ns (λ k m. whole k (inr m)) in
     omega (arith, length-append (at n) (flat_map at ns), whole n (inl refl), rest)
 
--- the file of a name among those that are told
+-- the file of a name among the files of memory
 file_found : (told : Filed → File) → ((f : Filed) → (told f).name ≡ f.rec.name) → (name : List ℕ) (fs : List Filed) (f : Filed) → find (λ (g : Filed). same_word g.rec.name name) fs ≡ Some f → file_of (map told fs) name ≡ told f
 file_found told named name [] f is = absurd cc
 file_found told named name (g ∷ fs) f is = grind (arith, common_steps, same_Some, file_found told named name fs f)
@@ -46,7 +46,7 @@ module _ (k : Metadata) (sound : AreSound k) where
       → Among k.catalog.entries (record { slot = slot; rec = rec }) × (rec.name ≡ name)
   filed_named name slot rec is_slot is_rec = search (rules, rec_at-slot_of, same_Some, filed_at_slot)
 
--- ---- what is told
+-- ---- what memory represents
 module _ (k : Metadata) (at : ℕ → List ℕ) (s : State) (sound : AreSound k) (free : FreeSlotsAreEmpty k) (tells : Tells k at s) where
   pub limits_told : k.limits ≡ s.limits
   limits_told = ap (λ (t : State). t.limits) tells.state
@@ -68,7 +68,7 @@ module _ (k : Metadata) (at : ℕ → List ℕ) (s : State) (sound : AreSound k)
   pub known_counted : length (known s) ≡ length k.dict.entries
   known_counted = ap (λ ws. length ws) (sym known_told) ∙ length-map k.dict.entries (λ (e : List ℕ × ℕ). e.0)
 
-  -- a name has a slot exactly where a file has it
+  -- a name has a slot exactly if a file has it
   pub name_filed : (name : List ℕ) → has_name s.files name ≡ is_some (slot_of k.catalog name)
   name_filed name = grind (arith, common_steps, files_told, any_map, any_is_found, is_some-map)
 

@@ -1,4 +1,4 @@
--- A word that is declared under others: the files that meet it have it, where it is a test, and all that the others entail.
+-- A word that is declared under others: if it is a test, the files that meet it have it and all that the others entail.
 use Rattle.std.proofs.Common.{rules}
 use Rattle.lis_store.proofs.Common.{◌≡◌, ◌⊎◌, refl, sym, ap, ap₂, ◌∙◌, subst, inl, inr, ℕ, ◌+◌, ◌<◌, ◌≤◌, nat_lt, ◌&&◌, ◌||◌, Bool, true, false, List, [], ◌∷◌, ◌++◌, length, Option, Some, None, is_some, IsSome, arith, Result, list_any, range_with_len, or_cases, cases_eq, ltb-false, same_Some, Among, contains_from_among, range_among, word_of, rec_at, Filed, slot_is_below, Ext, has, numbers_at, differs, FileRecord, is_valued, is_test, test_of, plain_not_test, with_word, is_met, State, up, File, all_up, own_words, description, WellFormed, under, Metadata, marked_count, IsSaved, AreSound, FreeSlotsAreEmpty, KeepsInUse, declared_of, axioms_of, bytes_told, state_of, AreUsed, Tells, test_by, among_where, where_among, sorted_where, filed_rec, named_all, some_word, among_axiom, among_word, word_among, declared_has_number, used_had, met_weaker, Meaning, Held, Formula, Refusal, declared_under, Situation, refused, words_at, mkdir, link_named, linked_up, Head, Weaker, fun_ext, or_right, both_ways, false_from_ne_true, among_from_any, any_from_among, has_number, numbers_where, known, all_among, is_linked, words_told, file_told, among_from_number, number_from_among, one_number, same_tests, changed, all_up_has, declarable_not_valued, link_cases}
 use Rattle.lis_words.specs.declared.test.Test.{Test}
@@ -41,11 +41,11 @@ use Rattle.lis_journal.specs.Journal.{shape_of}
 use Rattle.lis_kept.specs.Image.{image_shape}
 
 -- ---- the sizes of files
--- a slot whose file meets a test has one
+-- if a file meets a test, its slot has a record
 met_rec : (t : Option Test) (o : Option FileRecord) → is_met_by t o ≡ true → (rec : FileRecord) × (o ≡ Some rec) × (is_met t rec.size ≡ true)
 met_rec t o h = search (rules, both_ways)
 
--- ---- descriptions that are made anew
+-- ---- descriptions that are rebuilt
 pub base_is : (k : Metadata) (test : Test) (number slot : ℕ) → base_at k (Meeting test number) slot ≡ number ∷ numbers_at k.ext slot
 base_is k test number slot = ap (λ ns. number ∷ ns) (filter_all (λ n. true) (numbers_at k.ext slot) (λ n m. refl))
 
@@ -211,7 +211,7 @@ module _ {p made : Metadata} {word : List ℕ} {rights : List ℕ} (form : AreIn
     sets : (slot : ℕ) → Sets slot
     sets slot = subst (λ (e : Ext). ((meets slot ≡ true) × (numbers_at q.ext slot ≡ gained slot)) ⊎ ((meets slot ≡ false) × (numbers_at q.ext slot ≡ numbers_at e slot))) ext_same (set_by anew_is slot)
 
-    -- ---- the store is in form again
+    -- ---- the store is well formed again
     old_on : (n slot : ℕ) → has p.ext n slot ≡ true → has q.ext n slot ≡ true
     old_on n slot had_it = by (sets slot)
       where
@@ -353,7 +353,7 @@ module _ {p made : Metadata} {word : List ℕ} {rights : List ℕ} (form : AreIn
     few_more : marked_count q ≤ marked_count made + 128
     few_more = few_made anew_is some_met rows rows_few turned_row
 
-    -- ---- the state that it tells
+    -- ---- the state that it represents
     module _ (at : ℕ → List ℕ) {s : State} (tells : Tells p at s) (new : Among (known s) word → ⊥) (sizes : (f : Filed) → Among p.catalog.entries f → length (bytes_told p.limits at f.rec) ≡ f.rec.size) where
       abbrev t : State
       t = declared_under s word words

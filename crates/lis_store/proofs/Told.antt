@@ -1,10 +1,10 @@
--- What memory tells under other words.
+-- What memory represents with other words.
 use Rattle.lis_store.proofs.Common.{◌≡◌, sym, ◌∙◌, ℕ, ◌+◌, ◌≤◌, List, [], ◌∷◌, length, map, ap, subst, inl, inr, arith, Equal, tied_itself, word_exact, word_order, Among, among_from_contains, Dict, word_of, Filed, numbers_at, SpellsSuper, Limits, State, description, WellFormed, word_cmp, with_word, with_words, flat_all, Metadata, state_of, AreUsed, Tells, set_of, words_told, file_told, insert_key_le}
 use Rattle.std.specs.Option.{option_to_list}
 use Rattle.lis_laws.proofs.Counts.{le_insert_key}
 use Rattle.lis_store.proofs.Points.{length-insert_key}
 
--- lists that are told the same are told so one by one
+-- if two functions give the same list, they give the same for each element
 pub same_map : {X Y : Type 0} (f g : X → Y) (xs : List X) → map f xs ≡ map g xs → (x : X) → Among xs x → f x ≡ g x
 same_map f g [] e x m = absurd m
 same_map f g (y ∷ ys) e x (inl same) = let first : f y ≡ g y = cc in subst (λ z. f z ≡ g z) same first
@@ -14,7 +14,7 @@ same_map f g (y ∷ ys) e x (inr m) = let rest : map f ys ≡ map g ys = cc in s
 pub words_same : (d e : Dict) (ns : List ℕ) → ((n : ℕ) → Among ns n → word_of e n ≡ word_of d n) → words_told e ns ≡ words_told d ns
 words_same d e ns same = ap set_of (flat_all (λ n. option_to_list (word_of e n)) (λ n. option_to_list (word_of d n)) ns (λ n m. ap option_to_list (same n m)))
 
--- a new word makes a set longer by one
+-- a new word makes a set one longer
 pub length-with_word : (words : List (List ℕ)) (word : List ℕ) → ((w : List ℕ) → Among words w → word_cmp word w ≡ Equal → ⊥) → length (with_word words word) ≡ length words + 1
 length-with_word words word new = length-insert_key word_cmp word_exact words word (λ m. new word m (tied_itself word_order word))
 
@@ -22,15 +22,15 @@ pub few_with : (some more : List (List ℕ)) → length (with_words some more) �
 few_with some [] = omega arith
 few_with some (word ∷ more) = omega (arith, few_with (with_word some word) more, insert_key_le word_cmp some word)
 
--- with more words a list of them is no shorter
+-- a list with more words is no shorter
 pub words_grow : (some more : List (List ℕ)) → length some ≤ length (with_words some more)
 words_grow some [] = omega arith
 words_grow some (word ∷ more) = omega (arith, le_insert_key word_cmp some word, words_grow (with_word some word) more)
 
--- ---- where words, axioms and descriptions change, and the files and their blocks stay
+-- ---- words, axioms and descriptions change, and the files and their blocks stay
 module _ (p q : Metadata) (same : q ≡ record p { dict = q.dict; declared = q.declared; axioms = q.axioms; ext = q.ext; marks = q.marks })
     (stays : (f : Filed) → Among p.catalog.entries f → (n : ℕ) → Among f.rec.tags n → word_of q.dict n ≡ word_of p.dict n) (at : ℕ → List ℕ) where
-  -- a file has the words that it was given
+  -- a file keeps its assigned words
   pub file_same : (f : Filed) → Among p.catalog.entries f → file_told q.limits q.dict at f ≡ file_told p.limits p.dict at f
   file_same f m =
       ap (λ (k : Metadata). file_told k.limits q.dict at f) same

@@ -1,11 +1,11 @@
--- What memory tells by what a disk keeps, whether changes are held back or not.
+-- What memory represents by what a disk keeps, whether changes are held back or not.
 use Rattle.lis_store.proofs.Common.{◌≡◌, inr, ℕ, ◌+◌, ◌<◌, ◌==◌, Bool, true, false, cond, List, [], ◌∷◌, length, arith, and_parts, eqb-true, Meaning, looked, are_whole, data_start, State, IsWritten, Tells, HomeBlock}
 use Rattle.lis_journal.specs.Images.{look}
 use Rattle.lis_journal.proofs.Fitting.{kept_whole}
 use Rattle.lis_store.specs.Stored.{Stored, IsSound, StoreFits, StoreHolds}
 use Rattle.lis_kept.proofs.Image.{same_blocks, same_homes}
 
--- by these blocks memory tells the state and is written, and each data block is whole
+-- by these blocks memory represents the state and is written, and each data block is whole
 pub record ToldBy (k : Stored) (s : State) : Type 0 where
   pub kept : ℕ → List ℕ
   pub tells : Tells k.metadata kept s

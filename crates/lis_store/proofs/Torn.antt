@@ -1,4 +1,4 @@
--- A fault of the disk while a call puts contents or gives them back: the store is broken, and tells what it did.
+-- A disk fault while a call puts or frees contents: the store is broken, and the clauses of the call hold.
 use Rattle.lis_store.proofs.Common.{refl, ap, Option, ◌≡◌, sym, ◌∙◌, subst, ℕ, true, false, Bool, List, [], length, Result, Err, Meaning, Held, is_large, State, Situation, Outcome, Metadata, AreSound, FileRecord}
 use Rattle.lis_store.specs.declared.change_fault.ChangeFault.{ChangeFault}
 use Rattle.lis_store.specs.declared.change_fault.ChangeFault.TheVariants.{Refused, Disk}

@@ -1,4 +1,4 @@
--- What a store comes to when an axiom is taken away: the axiom is looked for by its words, it goes, and descriptions lose what they had by it alone.
+-- What removing an axiom gives: the axiom is found by its words and removed, and descriptions lose what they had by it alone.
 use Rattle.std.proofs.Common.{rules}
 use Rattle.lis_words.specs.declared.test.Test.{Test}
 use Rattle.lis_store.proofs.Common.{◌≡◌, refl, sym, ap, ◌∙◌, subst, ℕ, ◌==◌, true, false, List, Some, None, ◌⊎◌, inl, inr, not, ◌||◌, Bool, cond, length, slice_get, Option, is_some, IsSome, option_to_list, arith, ap₂, ◌≤◌, ◌&&◌, if◌then◌else◌, [], filter, slice_set, Result, and_parts, none-some, Among, number_of, word_from_number, number_from_word, FreeAxiom, Pair, same_word, same_pair, has_axiom, same_word_decides, Metadata, AreSound, has_pair, axioms_of, among_axiom, or_cases, not-true, not_from_false, among_filter, filter_among, is_taken, Dict, IsDict, word_of, rec_at, has, numbers_at, FileRecord, is_plain_word, is_test, is_valued, has_word, test_of, plain_not_test, with_axiom, File, up, all_up, own_words, file_words, is_met, entails_from_up, derived_built_in, among_with_words, OwnWord, own_word, own_from, Assigned, Derived, Met, MayForget, FreeSlotsAreEmpty, bit_of, is_declared, declared_of, is_head_by, is_used, AreUsed, among_word, word_among, declared_word, declared_has_number, used_flagged, used_had, IsStrictlySortedBy, contains_from_among, sorted_from_rising, Filed, Ext, differs, State, pair_cmp, description, IsSaved, is_own_link, state_of, Tells, among_where, where_among, sorted_where, filed_rec, some_word, named_below, named_all, number_told, same_Some, Meaning, looked, Situation, refused, both_ways, false_from_ne_true, or_left, or_right, among_from_any, has_number, words, all_up_has, same_tests, is_linked, words_told, file_told, among_from_number, number_from_among, one_number, numbers_where, changed, built_in_not_plain}
@@ -43,8 +43,8 @@ use Rattle.lis_store.specs.ReplacingIn.{AreInForm}
 use Rattle.lis_laws.proofs.Forms as forms
 use Rattle.lis_kept.specs.Image.{image_shape}
 
--- ---- an axiom that is looked for
--- an axiom by its numbers is one that is kept
+-- ---- finding an axiom
+-- an axiom between two numbers is one that is kept
 pub pair_sound : (k : Metadata) → AreSound k → (left right : ℕ) → has_pair k.axioms left right ≡ true → (slot : ℕ) × IsSoundAxiom k slot left right
 pair_sound k sound left right has = let at = pair_slot k.axioms left right has in (at.0, sound.axioms at.0 left right at.1)
 
@@ -85,13 +85,13 @@ module _ (k : Metadata) (sound : AreSound k) (l r : List ℕ) where
 abbrev pub RightsAreDeclared : Metadata → Type 0
 RightsAreDeclared k = (slot x y : ℕ) → slice_get k.axioms slot ≡ Some (Pair x y) → is_taken k.declared y ≡ true
 
--- a file has what it was given
+-- a file has the words that are assigned to it
 abbrev pub TagsAreHad : Metadata → Type 0
 TagsAreHad k = (slot : ℕ) (rec : FileRecord) → rec_at k.catalog slot ≡ Some rec → (n : ℕ) → has_number rec.tags n ≡ true → has k.ext n slot ≡ true
 
 -- ---- without the axiom
 module _ {left right : ℕ} {p k : Metadata} (unlinks : Unlinks left right p k) where
-  -- each other axiom was there
+  -- each other axiom was there before
   was_there : (at x y : ℕ) → slice_get k.axioms at ≡ Some (Pair x y) → slice_get p.axioms at ≡ Some (Pair x y)
   was_there at x y is = search (rules, set_cases)
 
@@ -111,14 +111,14 @@ module _ {left right : ℕ} {p k : Metadata} (unlinks : Unlinks left right p k) 
   right_flagged rights = ap (λ (u : Metadata). is_taken u.declared right) unlinks.metadata ∙ rights unlinks.slot left right unlinks.there
 
 -- ---- descriptions
--- The axiom between two numbers is gone, and descriptions that have the left one are made anew.
+-- The axiom between two numbers is removed, and descriptions that have the left number are rebuilt.
 pub record IsLessened (left right : ℕ) (k m : Metadata) : Type 0 where
   pub sound : AreSound k
   pub closed : AreClosed k
   pub free : FreeSlotsAreEmpty k
   pub lessens : Redescribes (rebuilt k (Losing left right)) k.limits.files k m
 
--- of numbers that it has
+-- from numbers that it has
 pub less_had : (k : Metadata) (left right slot n : ℕ) → Among (base_at k (Losing left right) slot) n → has k.ext n slot ≡ true
 less_had k left right slot n among = number_from_among (numbers_at k.ext slot) n (among_filter (stays k right (tags_at k slot)) (numbers_at k.ext slot) n among).0
 
@@ -135,14 +135,14 @@ module _ {left right : ℕ} {k m : Metadata} (l : IsLessened left right k m) whe
   pub base_had : (slot n : ℕ) → Among (base slot) n → has k.ext n slot ≡ true
   base_had slot n among = less_had k left right slot n among
 
-  -- a number that stays is left
+  -- a number that stays is kept
   pub base_has : (n slot : ℕ) → IsSome (word_of k.dict n) → has k.ext n slot ≡ true → stays k right (tags_at k slot) n ≡ true → has_number (closure k (base slot)) n ≡ true
   base_has n slot worded had held = search (rules, closure_has, filter_among, among_from_number)
 
   pub had_on : (n slot : ℕ) → IsSome (word_of k.dict n) → has k.ext n slot ≡ true → stays k right (tags_at k slot) n ≡ true → has m.ext n slot ≡ true
   had_on n slot worded had held = set_where is_rebuilt (λ ns. has_number ns n ≡ true) slot (λ here. base_has n slot worded had held) (λ other. had)
 
-  -- what is lost the right word entails
+  -- the right word entails what is lost
   pub lost_led : (n slot : ℕ) → IsSome (word_of k.dict n) → has k.ext n slot ≡ true → has_number (closure k (base slot)) n ≡ false → is_entailed k right n ≡ true
   lost_led n slot worded had gone = by (is_entailed k right n) refl
     where
@@ -198,7 +198,7 @@ module _ {left right : ℕ} {k m : Metadata} (l : IsLessened left right k m) whe
         had slot was true now = used_had less n slot now
         had slot was false gone = used_flagged less n (led_flagged n (lost n slot worded was gone))
 
--- ---- what may be forgotten
+-- ---- what may be removed
 at_has : (o : Option ℕ) (n : ℕ) → is_at o n ≡ true → has_number (option_to_list o) n ≡ true
 at_has o n is = search (rules, both_ways, or_left)
 
@@ -232,7 +232,7 @@ module _ {left right : ℕ} {k m : Metadata} (l : IsLessened left right k m) (p 
         heads = λ n head n_used is. head_used (less l) (subst (λ (u : Metadata). AreSound u) (made_is (is_rebuilt l)) sound_then) (closed_less l) n head is n_used;
       })
 
--- ---- what is left of a description
+-- ---- what remains of a description
 module _ {left right : ℕ} {k m : Metadata} (l : IsLessened left right k m) (slot : ℕ) (w r : List ℕ) (file : File) (is_right : word_of k.dict right ≡ Some r) (plain : is_plain_word r ≡ true)
     (given : file.assigned ≡ words_told k.dict (tags_at k slot)) (told : words_told k.dict (numbers_at k.ext slot) ≡ file_words (declared_of k) (with_axiom (axioms_of k) (w, r)) file) where
   abbrev D : List (List ℕ)
@@ -250,7 +250,7 @@ module _ {left right : ℕ} {k m : Metadata} (l : IsLessened left right k m) (sl
   abbrev tags : List ℕ
   tags = tags_at k slot
 
-  -- what is not plain the right word does not entail
+  -- the right word does not entail what is not plain
   not_plain_stays : (u : List ℕ) (n : ℕ) → word_of k.dict n ≡ Some u → is_plain_word u ≡ false → stays k right tags n ≡ true
   not_plain_stays u n is never = search (rules, or_right, not_from_false, false_from_ne_true, both_ways, led_plain)
 
@@ -264,11 +264,11 @@ module _ {left right : ℕ} {k m : Metadata} (l : IsLessened left right k m) (sl
   own_stays u n is (Derived of) = not_plain_stays u n is (built_in_not_plain u (derived_built_in file.name file.bytes u of))
   own_stays u n is (Met there met) = not_plain_stays u n is (met_not_plain u (test_of u) refl met)
 
-  -- a word of the old description comes without the axiom, or by its right word
+  -- a word of the old description is entailed without the axiom, or by its right word
   come : (u : List ℕ) → Among (file_words D (with_axiom A (w, r)) file) u → Among (all_up D A own) u ⊎ Among (up D A r) u
   come u among = search (rules, with_one_axiom, among_with_words)
 
-  -- one of a number that stays comes without it
+  -- the word of a number that stays is entailed without it
   held_come : (n : ℕ) (u : List ℕ) → word_of k.dict n ≡ Some u → Among old n → stays k right tags n ≡ true → Among (all_up D A own) u
   held_come n u is among held = by (or_cases (has_number tags n) (not (is_entailed k right n)) held) (come u (subst (λ ws. Among ws u) told (word_among k l.sound old n u is (number_from_among old n among))))
     where
@@ -286,16 +286,16 @@ module _ {left right : ℕ} {k m : Metadata} (l : IsLessened left right k m) (sl
       (λ n u is among. let both = among_filter (stays k right tags) old n among in held_come n u is both.0 both.1)
 
 -- ---- the call
--- an axiom that may go
+-- an axiom that may be removed
 pub may_go : (k : Metadata) → PairsAreApart k → (l r : List ℕ) (left right : ℕ) → IsAxiomAt k l r left right → MayUnlink left right k
 may_go k apart l r left right found = search (rules, same_Some)
 
--- what it answers
+-- what `unaxiom` gives
 pub unaxiom_is : {old : Stored} {m : Meaning} {base : State} (l r : List ℕ) (b : Bool) → has_axiom (axioms_of old.metadata) (l, r) ≡ b → (now : Situation) → StoreHolds old m base now.state
     → unaxiom now (l, r) ≡ cond (not b) (refused now NoAxiom) (changed now (axiom_removed now.state (l, r)))
 unaxiom_is l r b has now fits = search (rules)
 
--- ---- what the store comes to
+-- ---- what becomes of the store
 heads_few : (d : Dict) (o : Option (List ℕ)) → length (heads_by d o) ≤ 1
 heads_few d None = omega arith
 heads_few d (Some w) = by (head_number d w)
@@ -305,7 +305,7 @@ heads_few d (Some w) = by (head_number d w)
     by (Some n) = omega arith
 
 module _ {left right : ℕ} {old : Stored} {q : Metadata} (was : IsSound old) (takes : TakesAxiom left right old.metadata q) where
-  -- memory at first, without the axiom, then with less in descriptions, and at the end
+  -- memory at the start, without the axiom, then with smaller descriptions, and at the end
   abbrev p : Metadata
   p = old.metadata
 
@@ -357,7 +357,7 @@ module _ {left right : ℕ} {old : Stored} {q : Metadata} (was : IsSound old) (t
           let before = ap (λ d. is_some (word_of d i)) (sym dict_is) ∙ known in
           inr (unused_is lessened p was.metadata was.in_use.used takes.unlinks was.in_use.rights i before unused)
 
-  -- ---- the store is in form again
+  -- ---- the store is well formed again
   declared_same : declared_of end ≡ declared_of k
   declared_same = ap declared_of (sym end_is) ∙ (ap (λ (s : State). s.declared) (takes.forgets.state (λ n. [])) ∙ ap declared_of takes.lessens.metadata)
 
@@ -435,7 +435,7 @@ module _ {left right : ℕ} {old : Stored} {q : Metadata} (was : IsSound old) (t
         (subst (λ (c : Ext). AreEditsFew k.ext c) (sym (ap (λ (u : Metadata). u.ext) end_is)) (made_edits (is_rebuilt lessened)));
   }
 
-  -- ---- the state that it tells
+  -- ---- the state that it represents
   module _ (at : ℕ → List ℕ) (s : State) (tells : Tells p at s) (l r : List ℕ) (is_left : word_of p.dict left ≡ Some l) (is_right : word_of p.dict right ≡ Some r) where
     abbrev pair : List ℕ × List ℕ
     pair = (l, r)

@@ -1,4 +1,4 @@
--- What a declaration that is taken back comes to.
+-- What removing a declaration gives.
 use Rattle.std.proofs.Common.{rules}
 use Rattle.std.proofs.Common.{eq-eqb}
 use Rattle.lis_store.proofs.Common.{◌≡◌, ◌⊎◌, refl, sym, ap, ap₂, ◌∙◌, subst, inl, inr, ℕ, ◌≤◌, ◌==◌, not, ◌&&◌, ◌||◌, Bool, true, false, if◌then◌else◌, List, [], ◌∷◌, length, slice_get, Option, Some, None, is_some, IsSome, Result, arith, get_or-set_other, list_any, and_parts, cases_eq, ne_eqb, not_from_false, not-true, not-false, same_Some, Among, contains_from_among, among_filter, filter_among, Meaning, looked, is_taken, number_of, word_of, word_from_number, Filed, rec_at, has, numbers_at, FileRecord, Pair, same_word, head_bytes, is_valued, is_test, has_word, Refusal, State, File, WellFormed, own_words, description, is_met, Situation, refused, rmdir, sorted_all_up, filter_le, same_word_decides, Metadata, block_of, is_marked, marked_count, is_own_link, has_pair, AreSound, FreeSlotsAreEmpty, KeepsInUse, bit_of, is_declared, declared_of, state_of, is_head_by, is_left_of, is_left_head_of, is_had, is_named_left, Tells, test_by, filed_rec, among_word, word_among, among_slot, used_had, differs, or_left, both_ways, false_from_ne_true, any_from_among, has_number, changed, same_tests, Rows, is_linked, words_told, file_told, among_from_number, number_from_among, one_number}
@@ -45,7 +45,7 @@ module _ (k : Metadata) (sound : AreSound k) (word : List ℕ) (n : ℕ) (number
   bit : is_taken k.declared n ≡ true
   bit = ap (bit_of k.declared) (sym numbered) ∙ declared
 
-  -- it may be taken back where nothing needs it, once no description has it
+  -- it may be removed if nothing needs it, once no description has it
   module _ (in_use : KeepsInUse k) (closed : AreClosed k) (tests : TestsAreMet k) (unneeded : is_needed k n ≡ false) where
     abbrev tested : Bool
     tested = is_some (test_by (word_of k.dict n))
@@ -96,11 +96,11 @@ module _ (k : Metadata) (sound : AreSound k) (word : List ℕ) (n : ℕ) (number
             let may = may_undeclare k sound in_use n headed bit had lefts not_right in
             record { declared = may.declared; had = refl; lefts = may.lefts; rights = may.rights; tags = may.tags; heads = may.heads }
 
-  -- it is in use in the state exactly where memory needs its number
+  -- the word is in use in the state exactly if memory needs its number
   in_use_told : (at : ℕ → List ℕ) (s : State) → FreeSlotsAreEmpty k → Tells k at s → is_in_use s word ≡ is_needed k n
   in_use_told at s free tells = ap (λ (x : State). is_in_use x word) (sym tells.state) ∙ needed_told k sound free at (described_told k at s sound free tells) n word word_at_number
 
--- ---- what files have without a word that is in no use
+-- ---- what files have without a word that is not in use
 module _ (s : State) (formed : WellFormed s) (word : List ℕ) (unused : not (is_in_use s word) ≡ true) (file : File) (there : Among s.files file) where
   abbrev without : State
   without = undeclared s word
@@ -121,9 +121,9 @@ module _ (s : State) (formed : WellFormed s) (word : List ℕ) (unused : not (is
       by (inl same) = absurd (differ (sym same))
       by (inr now) = now
 
--- ---- the row of `rmdir`, asked of what memory keeps
+-- ---- the row of `rmdir`, by what memory keeps
 module _ (k : Metadata) (sound : AreSound k) (at : ℕ → List ℕ) (now : Situation) (free : FreeSlotsAreEmpty k) (tells : Tells k at now.state) (word : List ℕ) where
-  -- what is in use is asked of a declared word alone
+  -- only for a declared word it matters whether it is in use
   used_same : is_declared k word ≡ true → (o : Option ℕ) → number_of k.dict word ≡ o → is_in_use now.state word ≡ is_needed_by k o
   used_same there None none = absurd (both_ways (is_declared k word) (ap (bit_of k.declared) none) there)
   used_same there (Some n) numbered = in_use_told k sound word n numbered there at now.state free tells
@@ -134,7 +134,7 @@ module _ (k : Metadata) (sound : AreSound k) (at : ℕ → List ℕ) (now : Situ
       let used = λ (there : not (has_word now.state.declared word) ≡ false). used_same (sym told ∙ not-false (has_word now.state.declared word) there) (number_of k.dict word) refl in
       same_first (rmdir_checks now.state word) (undeclare_checks k word) (refl, refl, λ own. (refl, refl, λ valued. (refl, ap not told, λ there. (refl, used there, λ _. tt))))
 
--- ---- a declaration that is taken back
+-- ---- a declaration that is removed
 module _ {old : Stored} {word : List ℕ} {number : ℕ} (sound : IsSound old) (may : IsUndeclarable old.metadata word number) where
   abbrev p : Metadata
   p = old.metadata
@@ -194,7 +194,7 @@ module _ {old : Stored} {word : List ℕ} {number : ℕ} (sound : IsSound old) (
     tags_stay : (f : Filed) → Among p.catalog.entries f → (n : ℕ) → Among f.rec.tags n → word_of q.dict n ≡ word_of p.dict n
     tags_stay f m n tag = stays n (not_tag f.slot f.rec (filed_rec p.catalog sound.metadata.catalog f m) n (number_from_among f.rec.tags n tag))
 
-    -- ---- the store is in form again
+    -- ---- the store is well formed again
     closed_then : AreSound q → AreClosed q
     closed_then after slot a b had linked =
         let was = had_then a slot had in
@@ -261,7 +261,7 @@ module _ {old : Stored} {word : List ℕ} {number : ℕ} (sound : IsSound old) (
       edits = subst (λ (k : Metadata). AreEditsFew p.ext k.ext) (sym q_metadata) (redescribed_edits (without_number p number) p.limits.files p made gone.takes sound.metadata.files (without_past p sound.metadata number));
     }
 
-    -- ---- the state that it tells
+    -- ---- the state that it represents
     module _ (at : ℕ → List ℕ) (s : State) (tells : Tells p at s) where
       unused : not (is_in_use s word) ≡ true
       unused = not_from_false (is_in_use s word) (in_use_told p sound.metadata word number may.numbered may.declared at s sound.free tells ∙ may.unneeded)

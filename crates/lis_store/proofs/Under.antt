@@ -1,4 +1,4 @@
--- What a word comes to that is declared under others: the links that are new, and the words that files have then.
+-- What declaring a word under others gives: the new links, and the words that files have then.
 use Rattle.lis_store.proofs.Common.{common_steps, ◌≡◌, ◌⊎◌, ℕ, ◌+◌, Bool, true, false, List, [], ◌∷◌, ◌++◌, length, refl, sym, ap, subst, inl, inr, arith, IsStrictlySortedBy, Among, among_append, among_left, among_right, among_insert_key, insert_key_old, sorted_insert_key, word_cmp, is_valued, test_of, with_word, is_met, State, File, WellFormed, pair_cmp, all_up, own_words, description, with_axiom, declared_under, word_exact, word_order, pair_exact, among_set_of, Head, Weaker, entailing, all_up_closed, sorted_all_up, OwnWord, own_word, own_from, met_weaker, known_from, Assigned, Derived, Met, linked_up, under, both_ways, set_of, known, set_of_among, same_words, all_up_has, Left}
 use Rattle.lis_graph.proofs.Members.{insert_key_new}
 use Rattle.lis_graph.proofs.Sets.{same_sets}
@@ -28,7 +28,7 @@ module _ (word : List ℕ) where
   under_more : (axioms : Pairs) (some more : List (List ℕ)) → ((q : List ℕ) → Among some q → Among more q) → (e : List ℕ × List ℕ) → Among (under word axioms some) e → Among (under word axioms more) e
   under_more axioms some more within e m = grind (arith, common_steps, among_under, under, under_old, under_new)
 
-  -- to a set of words it is the same axioms
+  -- the axioms to a set of words are the same
   pub under_set : (axioms : Pairs) → IsStrictlySortedBy pair_cmp axioms → (words : List (List ℕ)) → under word axioms words ≡ under word axioms (set_of words)
   under_set axioms sorted words =
       same_sets pair_cmp pair_order (under word axioms words) (under word axioms (set_of words)) (under_sorted axioms words sorted) (under_sorted axioms (set_of words) sorted)
@@ -53,7 +53,7 @@ module _ (declared : List (List ℕ)) (axioms : Pairs) (word : List ℕ) (words 
   abbrev others : Pairs
   others = under word axioms words
 
-  -- a link is one that there was, or leads from the word, or to it from a stronger test
+  -- a link was there before, or leads from the word, or leads to it from a stronger test
   data NewLink (p r : List ℕ) : Type 0 where
     Old : OneLink declared axioms p r → NewLink p r
     From : word ≡ p → Among words r ⊎ (Among declared r × (are_weaker (test_of r) (test_of word) ≡ true)) → NewLink p r
@@ -74,7 +74,7 @@ module _ (declared : List (List ℕ)) (axioms : Pairs) (word : List ℕ) (words 
       by (inr new) = From (ap (λ (e : List ℕ × List ℕ). e.0) new.2) (inl (subst (λ w. Among words w) (ap (λ (e : List ℕ × List ℕ). e.1) new.2) new.1))
 
   module _ (had : List (List ℕ)) where
-    -- words without it and without a stronger test have no new links
+    -- words without the word and without a stronger test have no new links
     pub unmet_closed : (Among had word → ⊥) → ((p : List ℕ) → Among had p → are_weaker (test_of word) (test_of p) ≡ true → ⊥) → ((p r : List ℕ) → Among had p → OneLink declared axioms p r → Among had r)
         → (p r : List ℕ) → Among had p → OneLink more others p r → Among had r
     unmet_closed none weakest closed p r at link = by (new_link p r link)
@@ -84,7 +84,7 @@ module _ (declared : List (List ℕ)) (axioms : Pairs) (word : List ℕ) (words 
         by (From same to) = absurd (none (subst (λ w. Among had w) (sym same) at))
         by (To same weaker) = absurd (weakest p at weaker)
 
-    -- those with each weaker test gain by it what the words entail
+    -- words with each weaker test gain the word and what the words entail
     abbrev pub Gained : List ℕ → Type 0
     Gained w = (word ≡ w) ⊎ Among (all_up declared axioms (words ++ had)) w
 
@@ -142,7 +142,7 @@ module _ (s : State) (formed : WellFormed s) (word : List ℕ) (bare : is_valued
     test_there met =
         all_up_has t.declared t.axioms (own_words t.declared file) word (own_from t.declared file word (Met (insert_key_new word_cmp word_exact s.declared word) met))
 
-    -- where the file does not meet the word, they stay
+    -- if the file does not meet the word, its words stay
     pub unmet_same : meets ≡ false → description t file ≡ had
     unmet_same unmet =
         same_words (description t file) had (sorted_all_up t.declared t.axioms (own_words t.declared file)) (sorted_all_up s.declared s.axioms (own_words s.declared file))
@@ -159,7 +159,7 @@ module _ (s : State) (formed : WellFormed s) (word : List ℕ) (bare : is_valued
         by w (inl old) = old
         by w (inr met) = absurd (both_ways meets unmet met.1)
 
-    -- where it does, it gains the word, and what they all entail
+    -- if it does, it gains the word, and what they all entail
     pub met_gains : meets ≡ true → description t file ≡ with_word (all_up s.declared s.axioms (words ++ had)) word
     met_gains met =
         same_words (description t file) (with_word wide word) (sorted_all_up t.declared t.axioms (own_words t.declared file))

@@ -1,4 +1,4 @@
--- What memory keeps and tells when a file is gone with the words that nothing else used: its slot may be described anew.
+-- What memory keeps and represents after a file is removed with the words that nothing else used: its slot may be described again.
 use Rattle.std.proofs.Common.{rules}
 use Rattle.lis_store.proofs.Common.{◌≡◌, ◌⊎◌, refl, sym, ap, ◌∙◌, subst, inl, inr, ℕ, ◌+◌, ◌<◌, ◌≤◌, ◌==◌, not, Bool, true, List, [], length, get_or, set, Some, is_some, arith, get_or-set_same, get_or-set_other, ap₂, ◌++◌, list_all, Contains, and_parts, or_cases, cases_eq, ne_eqb, not_from_false, same_Some, Among, among_from_contains, contains_from_among, among_filter, filter_among, members_le, sorted_from_rising, is_taken, Filed, rec_at, word_of, Ext, has, numbers_at, FileRecord, word_cmp, State, description, is_assignable, file_removed, word_order, among_with_words, with_words_new, sorted_with_words, Metadata, is_own_link, has_pair, AreSound, FreeSlotsAreEmpty, declared_of, axioms_of, blocks_told, state_of, is_used, AreUsed, Tells, emptied, filed_rec, filed_at_slot, known_word, all_up, met_tests, and_from, or_left, or_right, both_ways, eq-eqb, false_from_ne_true, given, has_number, words, filter_drops, with_words_old, is_linked, words_told, file_told, number_from_among}
 use Rattle.lis_catalog.specs.Catalog.{without_slot}
@@ -57,7 +57,7 @@ module _ (p v : Metadata) (slot : ℕ) (rec : FileRecord) (form : AreInForm p) (
   axioms_left : axioms_of left ≡ axioms_of p
   axioms_left = ap (λ (s : State). s.axioms) (state_left (λ n. []))
 
-  -- a file that stays is told as it was
+  -- a file that stays is the same as before
   file_left : (at : ℕ → List ℕ) (f : Filed) → Among left.catalog.entries f → file_told p.limits v.dict at f ≡ file_told p.limits p.dict at f
   file_left at f m =
       let states : state_of left at ≡ state_of (without_record p slot) at = ap (λ (k : Metadata). state_of k at) (sym left_is) ∙ out.told at in
@@ -74,12 +74,12 @@ module _ (p v : Metadata) (slot : ℕ) (rec : FileRecord) (form : AreInForm p) (
           (subst (λ ws. is_own_link ws (word_of v.dict a) (word_of v.dict b) ≡ true) declared_left own))
       by (inr pair) = or_right (is_own_link (declared_of p) (word_of p.dict a) (word_of p.dict b)) (has_pair p.axioms a b) pair
 
-  -- ---- the file that comes
+  -- ---- the file that is put in
   module _ (draft : Draft) (may : MayReplace p slot rec draft) where
     pub described_is : described_by left draft ≡ described_by p draft
     described_is = ap₂ (λ declared axioms. all_up declared axioms (draft.assigned ++ draft.own ++ met_tests declared draft.size)) declared_left axioms_left
 
-    -- with its words no more are known than there would be with it in the place of the other
+    -- with its words no more are known than with the file instead of the other
     room_then : length (known_with left draft) ≤ p.limits.props
     room_then =
         let le = members_le word_cmp word_order (known_with left draft) (known_instead p slot draft)
@@ -108,7 +108,7 @@ module _ (p v : Metadata) (slot : ℕ) (rec : FileRecord) (form : AreInForm p) (
       room = room_then;
     })
 
-  -- ---- once the slot has no numbers
+  -- ---- after the slot has no numbers
   module _ (e : Ext) (marks : List Bool) (sets : e.sets ≡ set p.ext.sets slot []) where
     abbrev pub gone : Metadata
     gone = record left { ext = e; marks = marks }
@@ -152,7 +152,7 @@ module _ (p v : Metadata) (slot : ℕ) (rec : FileRecord) (form : AreInForm p) (
           | inr differ ↦ omega (arith, ap length (set_other at differ), form.short at)
         ]
 
-  -- a file may come into the slot then
+  -- a file may then be put into the slot
   pub vacant_left : IsVacant slot numbers v
   vacant_left = record {
     below = omega (arith, limits, slot_below p slot rec form out.there);
@@ -173,8 +173,8 @@ module _ (p v : Metadata) (slot : ℕ) (rec : FileRecord) (form : AreInForm p) (
           filter_drops (λ (f : Filed). not (f.slot == slot)) p.catalog.entries (record { slot = slot; rec = rec }) (filed_at_slot p.catalog form.sound.catalog slot rec out.there)
           (ap not (eq-eqb slot slot refl))
 
--- ---- the state that it tells
--- Memory told s, whatever blocks were taken, and the blocks of the file are given back.
+-- ---- the state that it represents
+-- Memory represented s, whatever blocks were taken, and the blocks of the file are freed.
 module _ (o : Metadata) (taken marks : List Bool) (v : Metadata) (slot : ℕ) (rec : FileRecord) (form : AreInForm (record o { taken = taken; marks = marks })) (out : Vacates slot rec (record o { taken = taken; marks = marks }) v)
     (sound : AreSound o) (at : ℕ → List ℕ) (s : State) (tells : Tells o at s) (e : Ext) (sets : e.sets ≡ set o.ext.sets slot []) (new : List Bool) where
   abbrev p : Metadata

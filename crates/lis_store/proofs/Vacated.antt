@@ -1,4 +1,4 @@
--- What is in use where a file is gone whose slot is still described, and the words that may be forgotten then.
+-- What is in use after a file is removed whose slot is still described, and which words may then be removed.
 use Rattle.std.proofs.Common.{rules}
 use Rattle.lis_store.proofs.Common.{◌≡◌, ◌⊎◌, refl, sym, ap, ◌∙◌, subst, inl, inr, ℕ, ◌<◌, ◌==◌, not, ◌&&◌, Bool, true, false, if◌then◌else◌, [], ◌∷◌, length, set, Option, Some, None, is_some, IsSome, slice_get, Pair, arith, length-set, get_or-set_same, IsStrictlyIncreasing, cases_eq, ne_eqb, is_taken, stays_marked, word_of, slot_of, rec_at, has, numbers_at, FileRecord, same_word, same_word_decides, Metadata, block_of, AreSound, state_of, is_used, MayForget, emptied, among_slots, left_out, used_flagged, used_had, both_ways, eq-eqb, has_number, Files, used_left}
 use Rattle.std.proofs.lemmas.Map.Entries.{option_filter}
@@ -17,7 +17,7 @@ use Rattle.lis_store.specs.ReplacingIn.{AreInForm}
 use Rattle.lis_store.proofs.HeadsUsed.{IsUsedFor, used_for, head_used}
 use Rattle.lis_store.proofs.HeadsUsed.IsUsedFor.{Flagged, HadAt, NamedLeft}
 
--- what is kept without the file, the slot described as before
+-- the metadata without the file, with the slot described as before
 abbrev pub vacated : Metadata → ℕ → Metadata
 vacated p slot = record p {
   catalog = without_slot p.catalog slot;
@@ -27,7 +27,7 @@ vacated p slot = record p {
 pub rec_there : (o : Option FileRecord) → is_some o ≡ true → (rec : FileRecord) × (o ≡ Some rec)
 rec_there o none = search (rules, both_ways)
 
--- memory stays sound where a slot without a file is not described
+-- memory stays sound if a slot without a file is not described
 pub sound_emptied : (k : Metadata) (slot : ℕ) → AreSound k → AreSound (emptied k slot)
 sound_emptied k slot sound = assumption (axioms, length-set k.ext.sets slot [] ∙ sound.files, named)
   where
@@ -79,7 +79,7 @@ module _ (p : Metadata) (slot : ℕ) (rec : FileRecord) (form : AreInForm p) (th
       by (HadAt at h) = place at h (cases_eq at slot)
       by (NamedLeft left) = inl (used_left (emptied p slot) n left)
 
-  -- ---- words that may be forgotten
+  -- ---- words that may be removed
   abbrev e : Metadata
   e = emptied (vacated p slot) slot
 
@@ -102,7 +102,7 @@ module _ (p : Metadata) (slot : ℕ) (rec : FileRecord) (form : AreInForm p) (th
           by (inl same) = absurd (both_ways (has e.ext a at) (ap (has e.ext a) same ∙ none_here p.ext slot a) h)
           by (inr differ) = same_elsewhere p.ext slot b at differ ∙ form.closed at a b (sym (same_elsewhere p.ext slot a at differ) ∙ h) linked
 
-  -- ---- the record goes, and then the words
+  -- ---- the record is removed, and then the words
   abbrev home : ℕ
   home = block_of p.limits Files slot
 

@@ -1,4 +1,4 @@
--- What memory keeps is a view, and its rows and its taxonomy tell of it.
+-- What memory keeps is a view, and its rows and its taxonomy represent it.
 use Rattle.std.proofs.Common.{eq-eqb}
 use Rattle.lis_words.specs.declared.test.Test.{Test}
 use Rattle.lis_store.proofs.Common.{common_steps, ◌≡◌, ℕ, ◌==◌, ◌&&◌, nat_lt, true, List, map, is_some, Option, Some, None, refl, sym, ap, ap₂, ◌∙◌, subst, arith, list_any, Contains, and_parts, eqb-true, ltb-true, length-map, same_Some, Among, among_from_contains, contains_from_among, number_of, word_of, number_below, Filed, slot_of, rec_at, has, numbers_at, Taxonomy, leads, entails_decides, FileRecord, same_word, has_word, test_of, up, is_met, same_word_decides, among_from_has_word, Placed, Metadata, AreSound, FreeSlotsAreEmpty, declared_of, axioms_of, test_by, TellsLinks, filed_rec, filed_slot, filed_at_slot, among_word, number_told, and_from, both_ways, among_from_any, any_from_among, among_map, map_among, words, has_word_from_among, all_among, same_tests, words_told}
@@ -13,7 +13,7 @@ use Rattle.lis_kept.proofs.Entailed.{leads_from_up, up_from_leads}
 use Rattle.lis_store.proofs.Entailment.{closed_up}
 use Rattle.lis_store.proofs.StoreSays.{any_is_found}
 
--- the step of a test asks for the size
+-- the step of a test checks the size
 size_asked : (word : List ℕ) (test : Test) (file : Entry) → holds (step_by (Some test) word) file ≡ is_met (Some test) file.size
 size_asked word test file = grind (arith, common_steps)
 
@@ -56,7 +56,7 @@ module _ (k : Metadata) (sound : AreSound k) where
       let g = filed f there_f in
       subst (λ (x : Placed). has k.ext w.1 x.slot ≡ has_word x.entry.words w.0) g.2 (number_told k sound (numbers_at k.ext (g.0).slot) w.1 w.0 (named w there_w))
 
-  -- a step that asks for a test finds the files that have it
+  -- a step of a test finds the files that have the test
   asked : TestsAreMet k → (w : Numbered) (f : Placed) → Contains k.dict.entries w → Contains (map (placed k) k.catalog.entries) f → (test : Option Test) → test_of w.0 ≡ test
       → holds (step_by test w.0) f.entry ≡ has_word f.entry.words w.0
   asked met w f there_w there_f None e = refl

@@ -10,7 +10,7 @@ use Rattle.lis_store.proofs.Rebuilt.{same_here, given_then}
 abbrev pub is_other : ℕ → ℕ → Bool
 is_other number n = not (n == number)
 
--- numbers that lack it stay
+-- numbers without it stay
 pub without_none : (number : ℕ) (ns : List ℕ) → has_number ns number ≡ false → filter (is_other number) ns ≡ ns
 without_none number [] none = refl
 without_none number (n ∷ ns) none =
@@ -25,7 +25,7 @@ pub without_named : (k : Metadata) (number : ℕ) (ns : List ℕ) → ((n : ℕ)
 without_named k number ns named =
     all_from (λ n. is_some (word_of k.dict n)) (filter (is_other number) ns) (λ n m. named n (number_from_among ns n (among_filter (is_other number) ns n m).0))
 
--- a slot that is not reached yet gets what it gets at first
+-- a slot that is not reached yet gets what it would get at the start
 pub without_same : (number n : ℕ) (p q : Metadata) → Redescribes (without_number p number) n p q → without_number q number n ≡ without_number p number n
 without_same number n p q so_far = ap (filter (is_other number)) (same_here (without_number p number) n p q so_far)
 

@@ -21,7 +21,8 @@ use Rattle.lis_store.proofs.FreeBlocks.{used_told, version_told}
 use Rattle.lis_store.proofs.Judged.{all_pass, change_refused}
 use Rattle.lis_model.specs.Step.{first_refusal}
 
--- What a call asks speaks of the store's value `now`, and what is proved of its metadata, `old`. The slot that it found has a record.
+-- What a call requires is about the store's value `now`, and what is proved is about its metadata, `old`. The slot that it found has a
+-- record.
 pub found_there : {old now : Stored} → old ≡ now → IsSound old → (name : List ℕ) {slot : ℕ} → slot_of now.metadata.catalog name ≡ Some slot
     → (rec : FileRecord) × (rec_at old.metadata.catalog slot ≡ Some rec) × (rec.name ≡ name)
 found_there {old} same sound name {slot} named = rec_at-slot_of old.metadata.catalog name slot sound.metadata.catalog (ap (λ (k : Stored). slot_of k.metadata.catalog name) same ∙ named)
@@ -50,7 +51,7 @@ module _ (k : Stored) (sound : IsSound k) (place : List Formula) (name : List �
       (given_set k sound slot rec there) (given_few k sound slot rec there) (derived_own name bytes) (derived_few_own name bytes) (omega (arith, most, long))
       ((nat_lt (free_instead k.metadata rec) (blocks_taken k.metadata.limits.version size), NoSpace) ∷ []) (all_pass (overwriting_checks k.metadata slot rec file size) none)
 
-  -- blocks that are enough for other bytes
+  -- there are enough blocks for other bytes
   write_enough : (bytes : List ℕ) (size : ℕ) → length bytes ≡ size
       → first_refusal (overwriting_checks k.metadata slot rec (given_before k.metadata rec name bytes) size) ≡ None → blocks_taken k.metadata.limits.version (length bytes) ≤ free_instead k.metadata rec
   write_enough bytes size long none =
@@ -72,7 +73,7 @@ module _ (k : Stored) (s : State) (sound : IsSound k) (fits : ToldBy k s) (name 
   bytes_are : (file_of s.files name).bytes ≡ bytes_told k.metadata.limits fits.kept rec
   bytes_are = ap (λ (f : File). f.bytes) (old_is k s sound fits name slot rec named there)
 
-  -- the blocks of the new bytes are enough
+  -- there are enough blocks for the new bytes
   pub written_enough : (size : ℕ) → blocks_taken k.metadata.limits.version size ≤ free_instead k.metadata rec
       → used_blocks s + blocks_taken s.limits.version size ≤ s.limits.blocks + blocks_taken s.limits.version (length (bytes_told k.metadata.limits fits.kept rec))
   written_enough size enough =
@@ -116,7 +117,7 @@ module _ (k : Stored) (s : State) (sound : IsSound k) (fits : ToldBy k s) (name 
         ∙ (ap₂ (λ n ws. changed at_place (file_replaced s n (new_file other ws (file_of s.files name).bytes))) (sym (filed_named k.metadata sound.metadata name slot rec named there).1) old_words
         ∙ ap (λ bs. changed at_place (file_replaced s rec.name (new_file other assigned bs))) same)
 
--- ---- a write that is let in
+-- ---- a write that is admitted
 module _ {old now : Stored} (same : old ≡ now) (sound : IsSound old) (place : List Formula) (name : List ℕ) {slot : ℕ} (named_now : slot_of now.metadata.catalog name ≡ Some slot)
     (here_now : true ≡ is_among now.metadata place name) (bytes : List ℕ) {size : ℕ} (small : size ≤ file_limit old.metadata.limits.version) (whole : size ≤ file_limit now.metadata.limits.version → length bytes ≡ size)
     (row : (rec : FileRecord) → rec_at old.metadata.catalog slot ≡ Some rec → first_refusal (overwriting_checks old.metadata slot rec (given_before old.metadata rec name bytes) size) ≡ None)
@@ -136,7 +137,7 @@ module _ {old now : Stored} (same : old ≡ now) (sound : IsSound old) (place : 
   long : length bytes ≡ size
   long = whole (subst (λ (k : Stored). size ≤ file_limit k.metadata.limits.version) same small)
 
-  -- what is asked of metadata in which a file makes way for these bytes
+  -- what is required of metadata in which these bytes replace those of a file
   abbrev pub WriteAsks : Metadata → Type 0
   WriteAsks k =
       MayPutBytes k (Some slot) (new_file name words bytes)
@@ -179,7 +180,7 @@ module _ {T : Type 0} (old : Stored) (m : Meaning) (place : List Formula) (name 
         → result ≡ Err (Refused refusal) → Holds base now (rename now name other) old m m result
     renamed_refused other refusal first ends = search (rules, change_refused, rename_refused, told_held)
 
-  -- where the file is not here, its slot and its record do not matter
+  -- if the file is not here, its slot and its record do not matter
   abbrev any_rec : FileRecord
   any_rec = record { name = []; size = 0; tags = []; blocks = [] }
 

@@ -1,4 +1,4 @@
--- Words of a file that comes into memory.
+-- Words of a file that is put into memory.
 use Rattle.std.specs.Prelude.{◌≡◌, ℕ, ◌+◌, ◌≤◌, Bool, true, false, ◌&&◌, ◌||◌, if◌then◌else◌, Option, is_some, Some, None, List, [], ◌∷◌, ◌++◌, length, IsSome}
 use Rattle.std.specs.List.{flat_map}
 use Rattle.lis_dict.specs.Dict.{Dict, words, number_of, word_of}
@@ -26,8 +26,8 @@ numbers_named dict words = numbers_where dict.props (λ n. is_one_of words (word
 abbrev pub AreNumbered : Dict → List (List ℕ) → Type 0
 AreNumbered dict words = (word : List ℕ) → has_word words word ≡ true → IsSome (number_of dict word)
 
--- ---- words that are learnt
--- a word behind its head
+-- ---- words that get numbers
+-- the head of a word, if it has one, and then the word
 abbrev pub behind_head : List ℕ → List (List ℕ)
 behind_head word = heads word ++ word ∷ []
 
@@ -40,11 +40,11 @@ may_learn k word =
     if is_valued word then is_some (number_of k.dict (head_bytes word)) || is_built_in (head_bytes word)
     else is_some (number_of k.dict word) || (is_head word && is_built_in word)
 
--- with these words there are no more than there is room for
+-- with these words there are no more words than there is room for
 abbrev pub HasWordRoom : Metadata → List (List ℕ) → Type 0
 HasWordRoom k more = length (with_words (words k.dict) more) ≤ k.limits.props
 
--- These words have numbers now, and each word that had one keeps it. No more blocks are marked than there are new words.
+-- These words have numbers now, and each word that had one keeps it. At most as many more blocks are marked as there are new words.
 pub record LearnsAll (more : List (List ℕ)) (p q : Metadata) : Type 0 where
   pub metadata : q ≡ record p { dict = q.dict; marks = q.marks }
   pub marks : Marks (length more) p q
@@ -54,6 +54,7 @@ pub record LearnsAll (more : List (List ℕ)) (p q : Metadata) : Type 0 where
   pub keeps : (n : ℕ) (word : List ℕ) → word_of p.dict n ≡ Some word → word_of q.dict n ≡ Some word
   pub state : (at : ℕ → List ℕ) → state_of q at ≡ state_of p at
 
--- The words of a file that are learnt with it: those that it was given, and those derived from it. Tests that it meets are declared.
+-- The words that get numbers with a file: those that are assigned to it, and those derived from it. The tests that it meets are declared
+-- already.
 abbrev pub learnt_words : Draft → List (List ℕ)
 learnt_words draft = draft.assigned ++ draft.own

@@ -1,4 +1,4 @@
--- What refuses a new file, told by what a store keeps.
+-- What a new file is refused for, by what a store keeps.
 use Rattle.std.specs.Prelude.{◌≡◌, ℕ, ◌≤◌, ◌<◌, nat_lt, nat_le, Bool, not, is_some, None, List, [], ◌∷◌, ◌++◌, length, IsTrue}
 use Rattle.std.specs.List.{list_any, list_all}
 use Rattle.lis_limits.specs.declared.TheConstants.{MAX_ASSIGNED, MAX_DESCRIPTION}
@@ -60,7 +60,7 @@ file_checks k place words file size =
 abbrev pub add_checks_of : Metadata → List Formula → List ℕ → List (List ℕ) → List ℕ → ℕ → List (Bool × Refusal)
 add_checks_of k place name words bytes size = file_checks k place words (new_file name (assigned_at place words) bytes) size
 
--- A file that a row of no refusal lets in.
+-- A file that no refusal of the row applies to.
 pub record IsAdmitted (k : Metadata) (draft : Draft) : Type 0 where
   pub name : IsTrue (is_file_name draft.name)
   pub new : slot_of k.catalog draft.name ≡ None

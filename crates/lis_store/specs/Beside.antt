@@ -1,4 +1,4 @@
--- The words that would be known with a file: beside all that are known, or in the place of another file.
+-- The words that would be known with a file that is added, or that replaces another file.
 use Rattle.std.specs.Prelude.{ℕ, nat_lt, Bool, not, ◌&&◌, Option, Some, None, List, [], ◌∷◌, length}
 use Rattle.lis_limits.specs.declared.TheConstants.{MAX_DESCRIPTION}
 use Rattle.lis_dict.specs.Dict.{words}
@@ -15,7 +15,7 @@ use Rattle.lis_store.specs.Drafts.{Draft}
 use Rattle.lis_store.specs.Admitting.{described_by}
 use Rattle.lis_store.specs.Replacing.{words_without}
 
--- the known words, but for those that only the file in the slot uses, if one is given
+-- the known words, except those that only the file in the slot uses, if a slot is given
 abbrev pub words_beside : Metadata → Option ℕ → List (List ℕ)
 words_beside k None = words k.dict
 words_beside k (Some slot) = words_without k slot

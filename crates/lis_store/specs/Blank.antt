@@ -7,7 +7,7 @@ use Rattle.lis_fields.specs.Layouts.{zeros}
 use Rattle.lis_model.specs.declared.limits.Limits.{Limits}
 use Rattle.lis_model.specs.Image.{properties_start, data_start, image_blocks}
 
--- What an image needs to stand for the empty state, besides its super block: the gates are zero, and so are all home blocks but the data
+-- What an image needs to represent the empty state, besides its super block: the gates are zero, and so are all home blocks except the data
 -- blocks. The rest of the gate block, the records and the data blocks may hold any bytes.
 pub record IsBlank (limits : Limits) (image : List ℕ) : Type 0 where
   pub long : BLOCK_LEN * image_blocks limits ≤ length image

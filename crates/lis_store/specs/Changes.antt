@@ -18,11 +18,11 @@ use Rattle.lis_store.specs.declared.change_fault.ChangeFault.{ChangeFault}
 use Rattle.lis_store.specs.declared.change_fault.ChangeFault.TheVariants.{Refused, Disk}
 use Rattle.lis_journal.specs.Journal.{shape_of}
 
--- a judgement that answers the first refusal of a row, or that none holds
+-- a judgement that returns the first refusal of a row that holds, or that none holds
 abbrev pub Judges : {T : Type 0} → List (Bool × Refusal) → Result T Refusal → Type 0
 Judges checks result = MatchResult result (λ _. first_refusal checks ≡ None) (λ refusal. first_refusal checks ≡ Some refusal)
 
--- At an answer that is no fault of the disk the store fits it: at the new state, or with a refusal at the old one.
+-- Unless the disk fails, the store fits it after the call: at the new state, or, after a refusal, at the old one.
 abbrev pub ChangeEnded : {T : Type 0} → Situation → Outcome → Stored → Meaning → Result T ChangeFault → Type 0
 ChangeEnded now outcome new m (Ok done) = (outcome.reply ≡ ok_line) × StoreFits new m outcome.next.state
 ChangeEnded now outcome new m (Err (Refused refusal)) = (outcome ≡ refused now refusal) × StoreFits new m now.state
@@ -41,39 +41,39 @@ pub record Changes {T : Type 0} (now : Situation) (outcome : Outcome) (new : Sto
   pub ended : ChangeEnded now outcome new after result
 
 -- ---- changes that are held back
--- At an answer that is no fault of the disk memory tells the new state, or with a refusal the old one, and the images stand for the base
--- or, where so much was held back that it was committed, for the new state.
+-- Unless the disk fails, memory represents the new state after the call, or, after a refusal, the old one. The images represent the base;
+-- if so many blocks were held back that they were committed, they represent the new state.
 abbrev pub HeldEnded : {T : Type 0} → State → Situation → Outcome → Stored → Meaning → Result T ChangeFault → Type 0
 HeldEnded base now outcome new m (Ok done) =
     (outcome.reply ≡ ok_line) × (StoreHolds new m base outcome.next.state ⊎ StoreHolds new m outcome.next.state outcome.next.state)
 HeldEnded base now outcome new m (Err (Refused refusal)) = (outcome ≡ refused now refusal) × StoreHolds new m base now.state
 HeldEnded base now outcome new m (Err Disk) = new.is_broken ≡ true
 
--- At each moment in the call the image stands for the base, the old state or the new one, and blocks past the image stay.
+-- At each moment in the call the image represents the base, the old state or the new one, and blocks past the image stay.
 pub record Holds {T : Type 0} (base : State) (now : Situation) (outcome : Outcome) (new : Stored) (before after : Meaning) (result : Result T ChangeFault) : Type 0 where
   pub moments : Leaves before after (λ image. (Stands image base ⊎ Stands image now.state) ⊎ Stands image outcome.next.state)
   pub past : KeepsPast (image_blocks base.limits) before after
   pub ended : HeldEnded base now outcome new after result
 
--- What a commit answers: it refuses nothing.
+-- How a commit ends: it refuses nothing.
 abbrev pub CommitEnded : {T : Type 0} → State → Stored → Meaning → Result T ChangeFault → Type 0
 CommitEnded s new m (Ok done) = StoreFits new m s
 CommitEnded s new m (Err (Refused refusal)) = false ≡ true
 CommitEnded s new m (Err Disk) = new.is_broken ≡ true
 
--- All that is held back is committed: at each moment the image stands for the base or for the state that memory tells.
+-- All that is held back is committed: at each moment the image represents the base or the state that memory represents.
 pub record Commits {T : Type 0} (base s : State) (new : Stored) (before after : Meaning) (result : Result T ChangeFault) : Type 0 where
   pub moments : Leaves before after (λ image. Stands image base ⊎ Stands image s)
   pub past : KeepsPast (image_blocks base.limits) before after
   pub ended : CommitEnded s new after result
 
--- At Ok the store fits the new state; a refusal leaves all that was held back as it was.
+-- At Ok the store fits the new state. A refusal leaves all that was held back as it was.
 abbrev pub AppliedEnded : {T : Type 0} → State → Situation → Outcome → Stored → Meaning → Result T ChangeFault → Type 0
 AppliedEnded base now outcome new m (Ok done) = (outcome.reply ≡ ok_line) × StoreFits new m outcome.next.state
 AppliedEnded base now outcome new m (Err (Refused refusal)) = (outcome ≡ refused now refusal) × StoreHolds new m base now.state
 AppliedEnded base now outcome new m (Err Disk) = new.is_broken ≡ true
 
--- A change is made, and committed with all that was held back: at each moment in the call the image stands for the base, the old state or
+-- A change is made, and committed with all that was held back: at each moment in the call the image represents the base, the old state or
 -- the new one, and blocks past the image stay.
 pub record Applies {T : Type 0} (base : State) (now : Situation) (outcome : Outcome) (new : Stored) (before after : Meaning) (result : Result T ChangeFault) : Type 0 where
   pub moments : Leaves before after (λ image. (Stands image base ⊎ Stands image now.state) ⊎ Stands image outcome.next.state)
@@ -87,19 +87,19 @@ CommitLeft new (Ok done) = (new.is_broken ≡ false) × (new.journal.staged ≡ 
 CommitLeft new (Err (Refused refusal)) = false ≡ true
 CommitLeft new (Err Disk) = new.is_broken ≡ true
 
--- A fault of the disk comes only where the count rose, and at each other answer the count stays.
+-- The result is a disk fault only if the count rose. With every other result the count stays.
 abbrev pub HasChangeCause : {T : Type 0} → ℕ → ℕ → Result T ChangeFault → Type 0
 HasChangeCause before now (Ok done) = now ≡ before
 HasChangeCause before now (Err (Refused refusal)) = now ≡ before
 HasChangeCause before now (Err Disk) = Rose before now
 
--- What a change, or a part of one, does to a disk: a fault of the disk ends it.
+-- What a change, or a part of one, does to a disk: the first disk fault ends it.
 pub record ChangesDisk {T : Type 0} (old new : Meaning) (result : Result T ChangeFault) : Type 0 where
   pub run : IsDiskRun old new
   pub cause : HasChangeCause old.disk_faults new.disk_faults result
   pub first_fault : DiskFaultEnds old new
 
--- What an answer says of a store on any disk: a refusal changes nothing, and a fault of the disk breaks it.
+-- What a result says of a store on any disk: a refusal changes nothing, and a disk fault breaks the store.
 abbrev pub ChangeLeft : {T : Type 0} → Stored → Stored → Result T ChangeFault → Type 0
 ChangeLeft old new (Ok done) = new.is_broken ≡ false
 ChangeLeft old new (Err (Refused refusal)) = new ≡ old
@@ -110,28 +110,28 @@ abbrev pub differing_bits : Ext → Ext → ℕ
 differing_bits old new =
     sum (map (λ slot. length (numbers_where old.props (differs (set_of old slot) (set_of new slot)))) (range_with_len 0 (length old.sets)))
 
--- Whatever the answer, the count of edits does not fall, and the rows are edited at most as often as bits of them differ.
+-- Whatever the result, the count of edits does not fall, and the rows are edited at most as often as bits of them differ.
 abbrev pub AreEditsFew : Ext → Ext → Type 0
 AreEditsFew old new = (old.edits ≤ new.edits) × (new.edits ≤ old.edits + differing_bits old new)
 
--- What a change, or a part of one, keeps of a store on any disk, whatever it answers.
+-- What a change, or a part of one, keeps of a store on any disk, whatever the result.
 pub record ChangeKeeps {T : Type 0} (old new : Stored) (result : Result T ChangeFault) : Type 0 where
   pub limits : new.metadata.limits ≡ old.metadata.limits
   -- layout and capacity of the journal
   pub image : shape_of new.journal ≡ shape_of old.journal
-  -- a refusal changes nothing, and a fault of the disk breaks the store
+  -- a refusal changes nothing, and a disk fault breaks the store
   pub left : ChangeLeft old new result
-  -- they do not fall, and rise by no more than the bits that differ
+  -- the count of edits does not fall, and rises by at most the number of bits that differ
   pub edits : AreEditsFew old.metadata.ext new.metadata.ext
   pub sound : IsSound new
 
 -- What every change says at its end, on any disk.
 pub record Ends {T : Type 0} (Untouched : Type 0) (old new : Stored) (before after : Meaning) (result : Result T ChangeFault) : Type 0 where
-  -- a refusal leaves the disk so
+  -- what a refusal leaves of the disk
   pub untouched : (refusal : Refusal) → result ≡ Err (Refused refusal) → Untouched
-  -- it began with a store in form
+  -- the store was sound before
   pub entry : IsSound old
-  -- and leaves one, of the same image
+  -- the store is sound after it, and of the same image
   pub keeps : ChangeKeeps old new result
-  -- a fault of the disk ends it
+  -- the first disk fault ends it
   pub disk : ChangesDisk before after result

@@ -1,4 +1,4 @@
--- Descriptions that are made anew: of some of their numbers, with all that these entail.
+-- Descriptions that are rebuilt: from some of their numbers, with all that these entail.
 use Rattle.std.specs.Prelude.{◌≡◌, ℕ, ◌<◌, IsTrue, length, Bool, true, false, not, ◌&&◌, ◌||◌, if◌then◌else◌, Option, is_some, Some, None, List, [], ◌∷◌, ◌++◌, filter}
 use Rattle.std.specs.List.{list_any}
 use Rattle.lis_words.specs.declared.test.Test.{Test}
@@ -52,7 +52,7 @@ is_gained_by k words n = list_any (λ word. entails_number k word n) words
 abbrev pub wider : Metadata → (ℕ → Bool) → ℕ → List ℕ
 wider k gains slot = numbers_where k.ext.props (λ n. has k.ext n slot || gains n)
 
--- ---- which descriptions are made anew
+-- ---- which descriptions are rebuilt
 abbrev pub is_met_by : Option Test → Option FileRecord → Bool
 is_met_by test None = false
 is_met_by test (Some rec) = is_met test rec.size
@@ -66,32 +66,33 @@ is_concerned k (Having number) slot = has k.ext number slot
 is_concerned k (Losing left right) slot = has k.ext left slot
 is_concerned k (Meeting test number) slot = is_met_at k (Some test) slot
 
--- ---- of which numbers
+-- ---- from which numbers
 abbrev pub tags_by : Option FileRecord → List ℕ
 tags_by None = []
 tags_by (Some rec) = rec.tags
 
--- the numbers of what the file in a slot was given
+-- the numbers of the words that are assigned to the file in a slot
 abbrev pub tags_at : Metadata → ℕ → List ℕ
 tags_at k slot = tags_by (rec_at k.catalog slot)
 
--- A number of a description needs no axiom that leads to the right word: the file was given it, or the right word does not entail it.
+-- A number of a description needs no axiom that leads to the right word: its word is assigned to the file, or the right word does not
+-- entail it.
 abbrev pub stays : Metadata → ℕ → List ℕ → ℕ → Bool
 stays k right tags n = has_number tags n || not (is_entailed k right n)
 
--- a number of the description in a slot is one of those of which it is made anew
+-- a number of the description in a slot is one of those from which it is rebuilt
 abbrev pub is_base : Metadata → Rebuild → ℕ → ℕ → Bool
 is_base k (Having number) slot n = true
 is_base k (Losing left right) slot n = stays k right (tags_at k slot) n
 is_base k (Meeting test number) slot n = true
 
--- a number that it had not
+-- a number that it did not have
 abbrev pub added : Rebuild → List ℕ
 added (Having number) = []
 added (Losing left right) = []
 added (Meeting test number) = number ∷ []
 
--- the numbers of which the description in a slot is made anew
+-- the numbers from which the description in a slot is rebuilt
 abbrev pub base_at : Metadata → Rebuild → ℕ → List ℕ
 base_at k how slot = added how ++ filter (is_base k how slot) (numbers_at k.ext slot)
 

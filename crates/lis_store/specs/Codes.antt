@@ -22,7 +22,7 @@ dict_code =
     code_by (ℕ × List (List ℕ × ℕ)) (coded× coded_ℕ (coded_list (coded× word_code coded_ℕ))) (λ d. (d.props, d.entries))
     (λ p. record { props = p.0; entries = p.1 }) (λ _. refl)
 
--- an axiom slot as the pair that it has, if it has one
+-- an axiom slot as its pair, if it has one
 abbrev pub pair_of : AxiomSlot → Option (ℕ × ℕ)
 pair_of Free = None
 pair_of (Pair left right) = Some (left, right)

@@ -1,4 +1,4 @@
--- How the contents of files are put on the disk, and given back.
+-- How the contents of files are put on the disk, and freed.
 use Rattle.std.specs.Prelude.{◌≡◌, ℕ, ◌+◌, ◌≤◌, nat_lt, Bool, true, false, Option, None, Some, List, [], length, Result, Ok, Err, IsTrue}
 use Rattle.std.specs.List.{list_all}
 use Rattle.lis_limits.specs.declared.TheConstants.{SLOT_BLOCKS}
@@ -34,13 +34,13 @@ AreContentsWithin limits at rec = IsTrue (list_all (λ n. nat_lt n limits.blocks
 
 -- These bytes may be put as a content, if there are blocks for them.
 pub record IsReadyForContent (bytes : List ℕ) (k : Stored) (m : Meaning) : Type 0 where
-  -- a file may have so many
+  -- a file may have this many bytes
   pub short : length bytes ≤ file_limit k.metadata.limits.version
-  -- the journal is that of the image, and no call of the disk failed
+  -- the journal is that of the image, and no disk call failed
   pub image : shape_of k.journal ≡ image_shape k.metadata.limits
   pub usable : JournalIsUsable k.journal m
   pub whole : k.is_broken ≡ false
-  -- nothing is placed, one more content can be staged, and before a large one nothing is
+  -- nothing is placed, one more content can be staged, and before a large content nothing is staged
   pub unplaced : k.journal.placed ≡ []
   pub room : length k.journal.staged + SLOT_BLOCKS ≤ k.journal.capacity.staged
   pub alone : is_large (length bytes) ≡ true → k.journal.staged ≡ []
@@ -51,8 +51,8 @@ pub record StepEnded {T : Type 0} (new : Stored) (before after : Meaning) (resul
   pub ended : EndsUnrefused new.is_broken result
   pub disk : ChangesDisk before after result
 
--- The disk failed while a content was put: only what is on it counts. At any moment a crash leaves all blocks as before but spare ones that
--- were free, and for a content that is not large all blocks.
+-- The disk failed while a content was put, so only what is on it counts. At any moment a crash leaves all blocks as before, except spare
+-- ones that were free. For a content that is not large it leaves all blocks.
 pub record ContentTorn (bytes : List ℕ) (p q : Metadata) (old new : Held) (before after : Meaning) : Type 0 where
   pub metadata : q ≡ record p { taken = q.taken; marks = q.marks }
   pub image : shape_of new ≡ shape_of old
@@ -62,13 +62,13 @@ pub record ContentTorn (bytes : List ℕ) (p q : Metadata) (old new : Held) (bef
   pub moments : (kept : ℕ → List ℕ) → Fits old before kept → Leaves before after (StandsBut old.layout (homes_of (data_start p.limits) spare) kept)
   pub past : (kept : ℕ → List ℕ) → Fits old before kept → KeepsPast old.layout.blocks before after
 
--- The bytes are put into free blocks, and the numbers that a slot has of them answered.
+-- The bytes are put into free blocks, and the block numbers for the slot are returned.
 abbrev pub ContentPut : List ℕ → Metadata → Metadata → Held → Held → Meaning → Meaning → Result (ArrayVec ℕ) ChangeFault → Type 0
 ContentPut bytes p q old new before after (Ok numbers) = Puts bytes numbers.items p q old new before after
 ContentPut bytes p q old new before after (Err (Refused refusal)) = false ≡ true
 ContentPut bytes p q old new before after (Err Disk) = ContentTorn bytes p q old new before after
 
--- The blocks of the file of a record are given back. The disk is asked alone, and at a fault none is.
+-- The blocks of the file of a record are freed. The disk is only read, and after a disk fault no block is freed.
 abbrev pub ContentGiven : {T : Type 0} → FileRecord → Metadata → Metadata → Held → Meaning → Meaning → Result T ChangeFault → Type 0
 ContentGiven rec p q journal before after (Ok done) = GivesBack rec p q journal before × Asks journal before after
 ContentGiven rec p q journal before after (Err (Refused refusal)) = false ≡ true
@@ -79,21 +79,21 @@ abbrev pub blocks_gone : Limits → (ℕ → List ℕ) → Option FileRecord →
 blocks_gone limits at None = []
 blocks_gone limits at (Some rec) = blocks_told limits at rec
 
--- The blocks of a file, if there is one, are given back and others taken. In version 1 they are given back first, and may be used again; in version 2 the
--- others were free.
+-- The blocks of a file, if there is one, are freed and others taken. In version 1 they are freed first, and may be used again. In version 2
+-- the others were free before.
 pub data Trades (limits : Limits) (gone : Option FileRecord) (taken now : List Bool) (blocks : List ℕ) (at there : ℕ → List ℕ) : Type 0 where
   First : IsTrue (are_free (given taken (blocks_gone limits at gone)) blocks) → now ≡ marked (given taken (blocks_gone limits at gone)) blocks
       → Trades limits gone taken now blocks at there
   Last : IsTrue (are_free taken blocks) → now ≡ given (marked taken blocks) (blocks_gone limits there gone) → Trades limits gone taken now blocks at there
 
--- By what the disk kept: these blocks hold the bytes, for which those of the file of a record are given back, if there is one.
+-- By what the disk kept: these blocks hold the bytes, and the blocks of the file of a record, if there is one, are freed instead.
 pub record IsRenewed (bytes numbers blocks : List ℕ) (gone : Option FileRecord) (p q : Metadata) (was : ℕ → List ℕ) (old new : Held) (after : Meaning) : Type 0 where
   pub lands : Lands p.limits bytes numbers blocks (looked old.staged was) new after
   pub stays : (n : ℕ) → is_among new.placed n ≡ false → lands.kept n ≡ was n
   pub trades : Trades p.limits gone p.taken q.taken blocks (looked old.staged was) (looked new.staged lands.kept)
 
--- Bytes are put into blocks, in the place of those of the file of a record if there is one. At any moment a crash leaves all blocks as before but placed ones,
--- which are among spare ones that were free.
+-- Bytes are put into blocks, instead of those of the file of a record if there is one. At any moment a crash leaves all blocks as before
+-- except placed ones, which are among spare ones that were free.
 pub record Renews (bytes numbers : List ℕ) (gone : Option FileRecord) (p q : Metadata) (old new : Held) (before after : Meaning) : Type 0 where
   pub metadata : q ≡ record p { taken = q.taken; marks = q.marks }
   pub marks : Marks 2 p q

@@ -1,4 +1,4 @@
--- How much of a state a store tells.
+-- How much of a state a store reports.
 use Rattle.std.specs.Prelude.{◌≡◌, length, count_by}
 use Rattle.lis_blockmap.specs.Bitmap.{free_count}
 use Rattle.lis_model.specs.State.{State, known}
@@ -6,7 +6,7 @@ use Rattle.lis_model.specs.Step.{free_blocks}
 use Rattle.lis_kept.specs.Metadata.{Metadata}
 use Rattle.lis_kept.specs.Linking.{is_filled}
 
--- what is kept has as many files, words, axioms and free blocks as the state
+-- the metadata has as many files, words, axioms and free blocks as the state
 pub record CountsState (k : Metadata) (s : State) : Type 0 where
   pub files : length k.catalog.entries ≡ length s.files
   pub known : length k.dict.entries ≡ length (known s)

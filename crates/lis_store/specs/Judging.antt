@@ -1,4 +1,4 @@
--- What commands are refused for, asked of what memory keeps.
+-- What commands are refused for, by what memory keeps.
 use Rattle.std.specs.Prelude.{◌≡◌, ℕ, ◌+◌, nat_lt, Bool, true, false, not, Option, Some, None, List, [], ◌∷◌, length, count_by, ◌++◌}
 use Rattle.std.specs.List.{list_any, list_all}
 use Rattle.lis_grammar.specs.Formula.{Formula}
@@ -22,7 +22,7 @@ use Rattle.lis_store.specs.Adding.{numbers_named}
 abbrev pub is_among : Metadata → List Formula → List ℕ → Bool
 is_among k place name = list_any (λ (file : Entry). same_word file.name name) (extension (table_of k) place)
 
--- whether a word is new, and the place under which it is to stand is one of plain declared words
+-- whether a word is new, and the place under which it would be declared is one of plain declared words
 abbrev pub place_checks : Metadata → List Formula → List ℕ → List (Bool × Refusal)
 place_checks k place word =
     (is_built_in word, BuiltIn)
@@ -32,7 +32,7 @@ place_checks k place word =
     ∷ (not (list_all (is_declared k) (words_at place)), UnknownProperty)
     ∷ []
 
--- whether there is room for the word, for so many axioms, and for what files gain that meet it under the words of these numbers
+-- whether there is room for the word, for this many axioms, and for what the files that meet the word gain under the words of these numbers
 abbrev pub room_checks : Metadata → List ℕ → ℕ → List ℕ → List (Bool × Refusal)
 room_checks k word axioms numbers =
     (nat_lt k.limits.props (count_by is_filled k.axioms + axioms), NoAxiomRoom)

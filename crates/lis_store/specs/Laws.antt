@@ -1,4 +1,4 @@
--- Laws on images that stand for a state.
+-- Laws on images that represent a state.
 use Rattle.std.specs.Prelude.{◌≡◌, ℕ, ◌≤◌, List, Some, length, IsTrue, IsSomeAnd}
 use Rattle.lis_limits.specs.declared.TheConstants.{BLOCK_LEN}
 use Rattle.lis_ports.specs.Meaning.{Meaning}
@@ -28,15 +28,15 @@ use Rattle.lis_store.specs.Stored.{Stored, PairsAreApart, IsSound, StoreFits, em
 use Rattle.lis_store.specs.Seen.{table_of}
 use Rattle.lis_store.specs.Counting.{CountsState}
 
--- an image stands for one state at most
+-- an image represents at most one state
 abbrev pub OneState : Type 0
 OneState = (image : List ℕ) (s t : State) → Stands image s → Stands image t → s ≡ t
 
--- where a store fits a disk at a state, the bytes as they read stand for it, and so does every image
+-- if a store fits a disk at a state, the bytes as they read represent the state, and so does every image
 abbrev pub FittingStoresStand : Meaning → Type 0
 FittingStoresStand m = (k : Stored) (s : State) → IsSound k → StoreFits k m s → Always m (λ image. Stands image s)
 
--- where a store fits a disk at a state, truth and listings see of the store what they see of the state
+-- if a store fits a disk at a state, truth and listings see of the store what they see of the state
 abbrev pub FittingStoresTell : Meaning → Type 0
 FittingStoresTell m = (k : Stored) (s : State) → IsSound k → StoreFits k m s → table_of k.metadata ≡ table s
 
@@ -54,30 +54,30 @@ FittingStoresCount m = (k : Stored) (s : State) → IsSound k → StoreFits k m 
 abbrev pub FittingStoresHaveAxioms : Meaning → Type 0
 FittingStoresHaveAxioms m = (k : Stored) (s : State) → IsSound k → StoreFits k m s → axioms_of k.metadata ≡ s.axioms
 
--- and each file was given the words that its record tells
+-- and the assigned words of each file are those that its record lists
 abbrev pub FittingStoresHaveTags : Meaning → Type 0
 FittingStoresHaveTags m =
     (k : Stored) (s : State) → IsSound k → StoreFits k m s → (name : List ℕ) (slot : ℕ) → slot_of k.metadata.catalog name ≡ Some slot
     → IsSomeAnd (rec_at k.metadata.catalog slot) (λ (rec : FileRecord). words_told k.metadata.dict rec.tags ≡ (file_of s.files name).assigned)
 
--- the metadata of an empty store is in form
+-- the metadata of an empty store is well formed
 abbrev pub EmptyStoresAreSound : Type 0
 EmptyStoresAreSound = (limits : Limits) (blocks : ℕ) → IsTrue (are_in_range limits) → data_start limits ≤ blocks → IsSound (empty_stored limits blocks)
 
--- A store without words and files fits an honest disk of one image, where this is a blank one behind its super block.
+-- A store without words and files fits an honest disk with one image, if this image is a super block and otherwise blank.
 abbrev pub EmptyStoresFit : Meaning → Type 0
 EmptyStoresFit m =
     (limits : Limits) (blocks : ℕ) (image : List ℕ) → IsTrue (are_in_range limits) → data_start limits ≤ blocks → IsTrue m.is_honest → IsSettled m image
     → SpellsSuper limits (part 0 BLOCK_LEN image) → IsBlank limits image → StoreFits (empty_stored limits blocks) m (empty_state limits)
 
--- While contents are placed in free blocks the image stands for the state as before, whatever these blocks hold.
+-- While contents are placed in free blocks the image represents the state as before, whatever these blocks hold.
 abbrev pub PlacedStand : Type 0
 PlacedStand =
     (k : Stored) (kept : ℕ → List ℕ) (blocks : List ℕ) (s : State) → IsSound k → Tells k.metadata kept s → IsWritten k.metadata kept
     → IsTrue (are_free k.metadata.taken blocks)
     → (image : List ℕ) → StandsBut k.journal.layout (homes_of (data_start k.metadata.limits) blocks) kept image → Stands image s
 
--- What is staged over blocks that tell t makes blocks of it: then each image that has all that is staged stands for t.
+-- If memory represents t by these blocks, and what memory keeps is written in them, each image that has these blocks represents t.
 abbrev pub ChangesStand : Type 0
 ChangesStand =
     (new : Stored) (layout : Layout) (kept : ℕ → List ℕ) (t : State) → AreSound new.metadata → FreeSlotsAreEmpty new.metadata → PairsAreApart new.metadata

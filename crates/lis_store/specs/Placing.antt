@@ -14,7 +14,7 @@ use Rattle.lis_store.specs.Assigning.{is_conjunct}
 abbrev pub is_plain_conjunct : Node → Bool
 is_plain_conjunct node = is_conjunct node && list_all is_plain_word (node_words node)
 
--- the number of a word that is declared
+-- the number of a word, if it is declared
 abbrev pub declared_number : Metadata → List ℕ → Option ℕ
 declared_number k word = if is_declared k word then number_of k.dict word else None
 
@@ -25,7 +25,7 @@ pub record AreNumbersOf (k : Metadata) (words : List (List ℕ)) (numbers : List
   pub named : IsTrue (list_all (λ n. is_some (word_of k.dict n)) numbers)
   pub told : words_told k.dict numbers ≡ words
 
--- The numbers of more words come to those of a set, each once. `fits` tells whether all these words are declared.
+-- The numbers of more words are added to those of a set, each once. `fits` says whether all these words are declared.
 pub record TakesNumbers (k : Metadata) (more : List (List ℕ)) (old new : List ℕ) (fits : Bool) : Type 0 where
   pub declared : fits ≡ list_all (is_declared k) more
   pub few : length new ≤ length old + length more

@@ -1,4 +1,4 @@
--- Descriptions that become others, slot by slot.
+-- Descriptions that are replaced, slot by slot.
 use Rattle.std.specs.Prelude.{◌≡◌, ◌⊎◌, ℕ, ◌+◌, ◌<◌, ◌≤◌, true, List, length, map, sum}
 use Rattle.std.specs.List.{range_with_len}
 use Rattle.lis_ext.specs.Ext.{set_of as numbers_at}
@@ -8,11 +8,11 @@ use Rattle.lis_kept.specs.Areas.{IsSaved, is_marked, block_of}
 use Rattle.lis_kept.specs.Areas.Area.{Rows}
 use Rattle.lis_kept.specs.Changes.{Describes}
 
--- One slot has these numbers then: it is described anew, or it had them.
+-- One slot has these numbers afterwards: it is described again, or it had them.
 abbrev pub SlotHas : ℕ → List ℕ → Metadata → Metadata → Type 0
 SlotHas slot numbers p q = Describes slot numbers p q ⊎ ((numbers ≡ numbers_at p.ext slot) × (q ≡ p))
 
--- which numbers differ at a slot that gets others
+-- which numbers differ at a slot that gets other numbers
 abbrev pub turned_at : Metadata → (ℕ → List ℕ) → ℕ → List ℕ
 turned_at k sets slot = numbers_where k.ext.props (differs (numbers_at k.ext slot) (sets slot))
 

@@ -1,4 +1,4 @@
--- What refuses a new axiom, told by what a store keeps.
+-- What a new axiom is refused for, by what a store keeps.
 use Rattle.std.specs.Prelude.{◌≡◌, ℕ, ◌+◌, ◌<◌, ◌≤◌, nat_lt, Bool, true, false, not, ◌&&◌, Option, Some, None, List, [], ◌∷◌, ◌++◌, length, count_by, IsTrue, IsSome}
 use Rattle.std.specs.List.{list_any, range_with_len}
 use Rattle.lis_limits.specs.declared.TheConstants.{MAX_DESCRIPTION}
@@ -26,7 +26,7 @@ abbrev pub is_number_of : List ℕ → Option ℕ → Bool
 is_number_of numbers None = false
 is_number_of numbers (Some n) = has_number numbers n
 
--- the description in a slot has the left word, and would have more words than it may with all that the right one entails
+-- the description in the slot has the left word, and would have too many words with all that the right one entails
 abbrev pub is_overfull : Metadata → List ℕ → List ℕ → ℕ → Bool
 is_overfull k left right slot = is_number_of (numbers_at k.ext slot) (number_of k.dict left) && nat_lt MAX_DESCRIPTION (length (wider k (is_gained_by k (right ∷ [])) slot))
 
@@ -54,7 +54,7 @@ axiom_room_checks k left right =
 abbrev pub axiom_checks_of : Metadata → List ℕ → List ℕ → List (Bool × Refusal)
 axiom_checks_of k left right = pair_checks k left right ++ axiom_room_checks k left right
 
--- A new axiom that a row of no refusal lets in.
+-- A new axiom that no refusal of the row applies to.
 pub record MayRelate (k : Metadata) (left right : List ℕ) : Type 0 where
   pub plain : IsTrue (is_plain_word right)
   pub declared : is_declared k right ≡ true
@@ -64,5 +64,5 @@ pub record MayRelate (k : Metadata) (left right : List ℕ) : Type 0 where
   pub no_circle : has_word (up (declared_of k) (axioms_of k) right) left ≡ false
   pub slots : count_by is_filled k.axioms < k.limits.props
   pub room : length (with_words (words k.dict) (behind_head left)) ≤ k.limits.props
-  -- no description that has the left word gets too large
+  -- no description that has the left word becomes too large
   pub short : (n slot : ℕ) → number_of k.dict left ≡ Some n → has k.ext n slot ≡ true → length (wider k (is_gained_by k (right ∷ [])) slot) ≤ MAX_DESCRIPTION

@@ -1,4 +1,4 @@
--- An axiom that comes into memory.
+-- An axiom that is added to memory.
 use Rattle.std.specs.Prelude.{◌≡◌, ℕ, Some, List}
 use Rattle.lis_dict.specs.Dict.{number_of}
 use Rattle.lis_kept.specs.Metadata.{Metadata}
@@ -9,7 +9,7 @@ use Rattle.lis_store.specs.Closing.{rebuilt}
 use Rattle.lis_store.specs.declared.closing.Rebuild.TheVariants.{Having}
 use Rattle.lis_store.specs.Redescribing.{Redescribes}
 
--- The left word is learnt, then linked to the right one, and the descriptions that have it are made anew.
+-- The left word gets a number, then it is linked to the right one, and the descriptions that have it are rebuilt.
 pub record RelatesIn (left right : List ℕ) (p q : Metadata) : Type 0 where
   pub learnt : Metadata
   pub learns : LearnsAll (behind_head left) p learnt

@@ -1,4 +1,4 @@
--- A file that leaves memory.
+-- A file that is removed from memory.
 use Rattle.std.specs.Prelude.{◌≡◌, ℕ, ◌+◌, true, not, ◌&&◌, if◌then◌else◌, is_some, Some, None, List, [], length}
 use Rattle.std.specs.List.Sorted.{IsStrictlyIncreasing}
 use Rattle.lis_catalog.specs.Catalog.{rec_at, without_slot}
@@ -15,11 +15,11 @@ use Rattle.lis_kept.specs.Forgetting.{emptied}
 use Rattle.lis_kept.specs.Changes.{Marks, Describes}
 use Rattle.lis_model.specs.Sets.{has_number}
 
--- what is kept without the record in the slot
+-- the metadata without the record in the slot
 abbrev pub without_record : Metadata → ℕ → Metadata
 without_record k slot = record k { catalog = without_slot k.catalog slot }
 
--- The record in the slot goes, and the words go that nothing uses but the description in the slot. The slot is described as before.
+-- The record in the slot is removed, and so are the words that only the description in the slot uses. The slot is described as before.
 pub record Vacates (slot : ℕ) (rec : FileRecord) (p q : Metadata) : Type 0 where
   pub there : rec_at p.catalog slot ≡ Some rec
   pub rising : IsStrictlyIncreasing (set_of p.ext slot)
@@ -33,7 +33,7 @@ pub record Vacates (slot : ℕ) (rec : FileRecord) (p q : Metadata) : Type 0 whe
   pub slot_marked : is_marked q (block_of p.limits Files slot) ≡ true
   pub sound : AreSound q
 
--- Its slot is vacated, and then its description goes.
+-- Its slot is vacated, and then its description is removed.
 pub record TakesOut (slot : ℕ) (rec : FileRecord) (p q : Metadata) : Type 0 where
   pub vacated : Metadata
   pub vacates : Vacates slot rec p vacated

@@ -1,4 +1,4 @@
--- A file that takes the place of another.
+-- A file that replaces another.
 use Rattle.std.specs.Prelude.{◌≡◌, ◌≢◌, ℕ, ◌≤◌, Some, None, List, length, map, filter, IsTrue}
 use Rattle.std.specs.List.{list_all}
 use Rattle.lis_limits.specs.declared.TheConstants.{MAX_ASSIGNED, MAX_DESCRIPTION}
@@ -18,11 +18,11 @@ use Rattle.lis_store.specs.Admitting.{described_by}
 abbrev pub words_without : Metadata → ℕ → List (List ℕ)
 words_without k slot = map (λ (e : List ℕ × ℕ). e.0) (filter (λ (e : List ℕ × ℕ). is_used (emptied k slot) e.1) k.dict.entries)
 
--- the words that would be known with a file in the place of that in the slot
+-- the words that would be known with a file instead of the one in the slot
 abbrev pub known_instead : Metadata → ℕ → Draft → List (List ℕ)
 known_instead k slot draft = with_words (words_without k slot) (described_by k draft)
 
--- A file that may come into the place of that in the slot.
+-- A file that may replace the one in the slot.
 pub record MayReplace (k : Metadata) (slot : ℕ) (rec : FileRecord) (draft : Draft) : Type 0 where
   pub there : rec_at k.catalog slot ≡ Some rec
   pub name : IsTrue (is_file_name draft.name)

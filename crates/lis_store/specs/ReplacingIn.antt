@@ -1,5 +1,5 @@
--- How a file comes into a slot of memory, in the place of another or into a free one. Words are forgotten while the slot is still described as
--- it was, and the slot is described anew once the other words have numbers, so that each bit of the rows is edited once at most.
+-- How a file is put into a slot of memory, instead of another or into a free slot. Words are removed while the slot still has its old
+-- description. The slot is described again once the other words have numbers, so each bit of the rows is edited at most once.
 use Rattle.std.specs.Prelude.{◌≡◌, ℕ, ◌<◌, ◌≤◌, Option, None, Some, List, length, IsTrue, IsSomeAnd}
 use Rattle.std.specs.List.{list_all}
 use Rattle.std.specs.List.Sorted.{IsStrictlyIncreasing}
@@ -24,7 +24,7 @@ use Rattle.lis_store.specs.Removing.{Vacates}
 use Rattle.lis_store.specs.Replacing.{MayReplace}
 use Rattle.lis_store.specs.Adding.{numbers_named, with_heads, LearnsAll, learnt_words}
 
--- what holds of what every store keeps, whatever is marked
+-- what holds of the metadata of every store, whatever is marked
 pub record AreInForm (k : Metadata) : Type 0 where
   pub sound : AreSound k
   pub free : FreeSlotsAreEmpty k
@@ -34,7 +34,7 @@ pub record AreInForm (k : Metadata) : Type 0 where
   pub tests : TestsAreMet k
 
 -- ---- room for a file
--- the record that goes where a file comes into the slot, if one is told
+-- the record that is removed when a file is put into the slot, if a slot is given
 abbrev pub record_in : Metadata → Option ℕ → Option FileRecord
 record_in k None = None
 record_in k (Some slot) = rec_at k.catalog slot
@@ -44,16 +44,16 @@ abbrev pub file_gone : State → Option FileRecord → State
 file_gone s None = s
 file_gone s (Some rec) = file_removed s rec.name
 
--- A file that may be put into the slot, in the place of the file there, or into a free one where none is told.
+-- A file that may be put into the slot, instead of the file there, or into a free one if no slot is given.
 abbrev pub MayPut : Metadata → Option ℕ → Draft → Type 0
 MayPut k None draft = IsAdmitted k draft
 MayPut k (Some slot) draft = IsSomeAnd (rec_at k.catalog slot) (λ (rec : FileRecord). MayReplace k slot rec draft)
 
--- And its blocks are enough.
+-- There are also enough blocks for it.
 abbrev pub MayPutBytes : Metadata → Option ℕ → File → Type 0
 MayPutBytes k slot file = MayPut k slot (draft_of file) × (blocks_taken k.limits.version (length file.bytes) ≤ free_for k (record_in k slot))
 
--- A file whose words may be given, and that has a new name.
+-- A file whose words may be assigned, and that has a new name.
 pub record MayComeIn (k : Metadata) (draft : Draft) : Type 0 where
   pub name : IsTrue (is_file_name draft.name)
   pub new : slot_of k.catalog draft.name ≡ None
@@ -66,7 +66,7 @@ pub record MayComeIn (k : Metadata) (draft : Draft) : Type 0 where
   pub room : length (known_with k draft) ≤ k.limits.props
   pub small : draft.size ≤ file_limit k.limits.version
 
--- The slot has no file, and is described by these numbers. Without them memory is in form.
+-- The slot has no file, and these numbers are its description. Without them memory is well formed.
 pub record IsVacant (slot : ℕ) (old : List ℕ) (k : Metadata) : Type 0 where
   pub below : slot < k.limits.files
   pub spare : length k.catalog.entries < k.limits.files
@@ -77,13 +77,13 @@ pub record IsVacant (slot : ℕ) (old : List ℕ) (k : Metadata) : Type 0 where
   pub sound : AreSound k
   pub form : AreInForm (emptied k slot)
 
--- The file of the record goes, or where there is none the slot is free.
+-- The file of the record is removed; if there is none, the slot is free.
 abbrev pub MakesRoom : ℕ → Option FileRecord → Metadata → Metadata → Type 0
 MakesRoom slot None p q = q ≡ p
 MakesRoom slot (Some rec) p q = Vacates slot rec p q
 
--- ---- a file that comes
--- The words of a file are learnt. These are the numbers of those that it was given, and those of its description.
+-- ---- a file that is put in
+-- The words of a file get numbers. These are the numbers of those that are assigned to it, and those of its description.
 pub record LearnsOwn (draft : Draft) (tags numbers : List ℕ) (p q : Metadata) : Type 0 where
   pub learns : LearnsAll (with_heads (learnt_words draft)) p q
   pub sound : AreSound q
@@ -95,7 +95,7 @@ pub record LearnsOwn (draft : Draft) (tags numbers : List ℕ) (p q : Metadata) 
 abbrev pub record_of : List ℕ → Draft → List ℕ → FileRecord
 record_of tags draft blocks = record { name = draft.name; size = draft.size; tags = tags; blocks = blocks }
 
--- Its words are learnt, then the slot is described by them, and last it is filed there.
+-- Its words get numbers, then the slot is described by them, and last its record is put there.
 pub record SettlesIn (slot : ℕ) (draft : Draft) (blocks : List ℕ) (p q : Metadata) : Type 0 where
   pub learnt : Metadata
   pub own : LearnsOwn draft (numbers_named learnt.dict draft.assigned) (numbers_named learnt.dict (described_by p draft)) p learnt
@@ -104,7 +104,7 @@ pub record SettlesIn (slot : ℕ) (draft : Draft) (blocks : List ℕ) (p q : Met
   pub files : Files slot (record_of (numbers_named learnt.dict draft.assigned) draft blocks) described q
   pub sound : AreSound q
 
--- The file of the record goes, if there is one, and another comes into its slot or into a free one.
+-- The file of the record is removed, if there is one, and another is put into its slot or into a free one.
 pub record RefilesIn (gone : Option FileRecord) (draft : Draft) (blocks : List ℕ) (p q : Metadata) : Type 0 where
   pub slot : ℕ
   pub old : List ℕ

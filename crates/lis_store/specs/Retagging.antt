@@ -1,4 +1,4 @@
--- What a file is refused for that would move from one place to another, told by what a store keeps.
+-- What a file is refused for that would move from one place to another, by what a store keeps.
 use Rattle.std.specs.Prelude.{ℕ, nat_lt, Bool, not, ◌&&◌, is_some, List, [], ◌∷◌, ◌++◌, length, Result, Ok, Err}
 use Rattle.std.specs.List.{list_any, list_all}
 use Rattle.lis_limits.specs.declared.TheConstants.{MAX_ASSIGNED}
@@ -17,7 +17,7 @@ use Rattle.lis_kept.specs.Telling.{words_told, declared_of}
 use Rattle.lis_store.specs.Drafts.{Draft, drafted, own_kept}
 use Rattle.lis_store.specs.Instead.{instead_checks}
 
--- the place that a text makes of a place, or why it is refused
+-- the place to which a text leads from a place, or why it is refused
 abbrev pub place_or_refusal : Resolution → Result (List Formula) Refusal
 place_or_refusal Unreadable = Err BadFormula
 place_or_refusal BeyondLimits = Err LargeFormula
@@ -27,7 +27,7 @@ place_or_refusal (NewPlace place) = Ok place
 abbrev pub words_moved : Metadata → FileRecord → List Formula → List Formula → List (List ℕ)
 words_moved k rec here there = retagged (words_told k.dict rec.tags) (tags_at here) (tags_at there)
 
--- the file of a record, with the derived words and their heads that its description has kept
+-- the file of a record under a name, with the derived words and their heads that its description has
 abbrev pub moved_draft : Metadata → ℕ → FileRecord → List Formula → List Formula → List ℕ → Draft
 moved_draft k slot rec here there name = drafted name rec.size (words_moved k rec here there) (own_kept k slot)
 
@@ -36,7 +36,7 @@ moved_draft k slot rec here there name = drafted name rec.size (words_moved k re
 abbrev pub text_checks : List (List ℕ) → List (Bool × Refusal)
 text_checks words = (list_any is_built_in words, BuiltIn) ∷ (list_any is_head words, NotAssignable) ∷ []
 
--- what both places are refused for, given the words of the text
+-- what the two places and the words of the text are refused for
 abbrev pub places_checks : Metadata → List Formula → List Formula → List (List ℕ) → List (Bool × Refusal)
 places_checks k here there words =
     (not (is_some (place_words here) && is_some (place_words there)), NotAPlace)

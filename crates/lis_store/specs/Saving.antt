@@ -23,27 +23,27 @@ use Rattle.lis_store.specs.Changes.{Holds, EndsUnrefused}
 abbrev pub clean : Metadata → Metadata
 clean k = record k { marks = replicate (length k.marks) false }
 
--- the store that this metadata and this journal are once they are saved
+-- the store of this metadata and this journal after they are saved
 abbrev pub settled : Metadata → Held → Stored
 settled k j = record { metadata = clean k; journal = record j { staged = []; placed = [] }; is_broken = false }
 
--- Placed blocks are data blocks, and where there are any the block of the bitmap is marked.
+-- Placed blocks are data blocks, and if there are any the block of the bitmap is marked.
 abbrev pub ArePlaced : Metadata → Held → Type 0
 ArePlaced k j = (n : ℕ) → is_among j.placed n ≡ true → (data_start k.limits ≤ n) × (is_marked k (bitmap_start k.limits) ≡ true)
 
--- What is asked of memory that is to be saved.
+-- What is required of memory that will be saved.
 pub record MayBeSaved (k : Stored) : Type 0 where
-  -- with all of it saved, it is that of a store
+  -- after all of it is saved, it is the memory of a store
   pub settles : AreSound k.metadata → IsSound (settled k.metadata k.journal)
   -- the journal is that of the image, and may be used
   pub image : shape_of k.journal ≡ image_shape k.metadata.limits
   pub unbroken : k.journal.is_broken ≡ false
-  -- what is placed is committed with the bitmap that tells of it
+  -- what is placed is committed with the bitmap that shows it
   pub placed : ArePlaced k.metadata k.journal
   -- all that is marked can be staged
   pub room : length k.journal.staged + marked_count k.metadata ≤ k.journal.capacity.staged
 
--- By these blocks memory tells a state, and what is not marked is written.
+-- By these blocks memory represents a state, and what is not marked is written.
 pub record IsReady (k : Metadata) (at : ℕ → List ℕ) (s : State) : Type 0 where
   pub tells : Tells k at s
   pub saved : IsSaved k at
@@ -57,8 +57,8 @@ pub record KeepsStaged {T : Type 0} (old new : Held) (before after : Meaning) (r
   pub none_placed : OnOk result (0 < length old.staged → new.placed ≡ [])
   pub broken : OnErr result (new ≡ record old { records = new.records; is_broken = true })
 
--- From any state for which each image stands that keeps all but the placed blocks, to any for which the metadata is ready, this is a change
--- that may be held back.
+-- It is a change that may be held back, from any state that each image represents which keeps all but the placed blocks, to any state for
+-- which the metadata is ready.
 abbrev pub Saves : {T : Type 0} → Metadata → Held → Stored → Meaning → Meaning → Result T ChangeFault → Type 0
 Saves k j new before after result =
     (base : State) (now : Situation) (outcome : Outcome) (t : State) (kept : ℕ → List ℕ) → Fits j before kept → k.limits ≡ base.limits
@@ -69,7 +69,7 @@ Saves k j new before after result =
 pub record SaveKeeps {T : Type 0} (old new : Stored) (result : Result T ChangeFault) : Type 0 where
   -- it is that of a store
   pub sound : IsSound new
-  -- only the marks go
+  -- only the marks are removed
   pub metadata : new.metadata ≡ record old.metadata { marks = new.metadata.marks }
   pub image : shape_of new.journal ≡ shape_of old.journal
   -- a fault of the disk breaks it, and nothing else does

@@ -1,4 +1,5 @@
--- What truth and listings see of a store: its words with their numbers, its files in their slots, told by the extension rows, and what words entail.
+-- What truth and listings see of a store: its words with their numbers, its files in their slots, as the extension rows show them, and what
+-- words entail.
 use Rattle.std.specs.Prelude.{map}
 use Rattle.lis_dict.specs.Dict.{words}
 use Rattle.lis_catalog.specs.Catalog.{Filed}
@@ -24,6 +25,6 @@ seen_of k = record {
   entailed = map (λ p. (p, up (declared_of k) (axioms_of k) p)) (words k.dict);
 }
 
--- the table of what is kept
+-- the table of the metadata
 abbrev pub table_of : Metadata → Table
 table_of k = view.table_of (seen_of k)

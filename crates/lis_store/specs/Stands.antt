@@ -1,4 +1,4 @@
--- When an image stands for a state.
+-- When an image represents a state.
 use Rattle.std.specs.Prelude.{◌≡◌, ℕ, ◌*◌, ◌/◌, ◌<◌, ◌≤◌, nat_lt, Bool, true, false, ◌&&◌, Option, Some, None, is_some, List, [], ◌∷◌, length, map, drop, replicate, slice_get, slice_index_or, IsTrue}
 use Rattle.std.specs.Option.{option_to_list}
 use Rattle.std.specs.BTreeSet.{insert_key}
@@ -34,7 +34,7 @@ pub record Contents : Type 0 where
   pub axioms : List AxiomSlot
   pub files : List FileSlot
 
--- the slots of an array are spelled so, by what each block holds, and are in the ranges of their layout
+-- in the blocks the slots of an array are spelled so, and their values are in the ranges of the layout
 pub record AreSlots {X : Type 0} (spelled : X → List ℕ) (is_in_range : X → Bool) (slots : Slots) (at : ℕ → List ℕ) (values : List X) : Type 0 where
   pub count : length values ≡ slots.count
   pub each : (k : ℕ) (value : X) → slice_get values k ≡ Some value → (slot slots at k ≡ spelled value) × IsTrue (is_in_range value)
@@ -122,8 +122,8 @@ row_bit s limits contents at p i =
     is_had_by s (file_by limits contents.properties at) (word_at contents.properties p) (slice_index_or contents.files i FreeFile)
 
 -- By what each block holds, the slots are in their layouts and spell the state, which is well formed. The words of the slots are the known
--- words, each once; no two axiom slots have one pair, and those past the last number are free; no two files have one name; index blocks are
--- in form; no block is used twice, as a data block or as an index block; the bitmap tells exactly the blocks in use; and the rows tell
+-- words, each once. No two axiom slots have one pair, and those past the last number are free. No two files have one name. Index blocks are
+-- well formed. No block is used twice, as a data block or as an index block. The bitmap shows exactly the blocks in use, and the rows show
 -- exactly which file has which word.
 pub record Spells (limits : Limits) (contents : Contents) (at : ℕ → List ℕ) (s : State) : Type 0 where
   pub properties : AreSlots prop_bytes is_prop (property_slots limits) at contents.properties
@@ -144,8 +144,8 @@ pub record Spells (limits : Limits) (contents : Contents) (at : ℕ → List ℕ
   pub bitmap : at (bitmap_start limits) ≡ bitmap_bytes (marked (replicate limits.blocks false) (all_blocks limits at (all_records contents.files)))
   pub rows : (p : ℕ) → p < (row_slots limits).count → slot (row_slots limits) at p ≡ bits_bytes (limits.files / 8) (row_bit s limits contents at p)
 
--- The image has a super block with the state's limits, is as long as these say, and has a replayed image that spells the state. What lies
--- past the image is not looked at.
+-- The image has a super block with the state's limits, is as long as these say, and has a replayed image that spells the state. What is
+-- past the image does not count.
 pub record StandsFor (image : List ℕ) (s : State) : Type 0 where
   pub range : IsTrue (are_in_range s.limits)
   pub super : SpellsSuper s.limits (part 0 BLOCK_LEN image)

@@ -30,7 +30,7 @@ use Rattle.lis_kept.specs.Image.{image_layout, image_capacity, image_shape}
 pub record Stored : Type 0 where
   pub metadata : Metadata
   pub journal : Held
-  -- a call of the disk failed: only what is on the disk counts
+  -- a disk call failed: only what is on the disk counts
   pub is_broken : Bool
 
 -- A store may be used on this disk: it is not broken, and the disk has all its blocks.
@@ -47,19 +47,18 @@ abbrev pub PairsAreApart : Metadata → Type 0
 PairsAreApart k =
     (slot other left right : ℕ) → slice_get k.axioms slot ≡ Some (Pair left right) → slice_get k.axioms other ≡ Some (Pair left right) → slot ≡ other
 
--- No file's description has more numbers than a state allows it words.
+-- No file's description has more numbers than a file of a state may have words.
 abbrev pub DescriptionsAreShort : Metadata → Type 0
 DescriptionsAreShort k = (slot : ℕ) → length (numbers_at k.ext slot) ≤ MAX_DESCRIPTION
 
--- Tests come into descriptions by sizes alone: no file was given one, and a file has a known one exactly where its size meets it.
+-- Tests are in descriptions by sizes alone: no test is assigned to a file, and a file has a known test exactly if its size meets it.
 pub record TestsAreMet (k : Metadata) : Type 0 where
   pub given : (slot : ℕ) (rec : FileRecord) → rec_at k.catalog slot ≡ Some rec → (n : ℕ) → has_number rec.tags n ≡ true
       → is_some (test_by (word_of k.dict n)) ≡ false
   pub met : (slot : ℕ) (rec : FileRecord) → rec_at k.catalog slot ≡ Some rec → (n : ℕ) → is_some (test_by (word_of k.dict n)) ≡ true
       → has k.ext n slot ≡ is_met (test_by (word_of k.dict n)) rec.size
 
--- What holds of every store. Where it is not broken nothing is placed or marked between calls, and of what is staged there are few blocks,
--- each of them whole.
+-- What holds of every store. If it is not broken, nothing is placed or marked between calls, and few blocks are staged, each of them whole.
 pub record IsSound (k : Stored) : Type 0 where
   pub metadata : AreSound k.metadata
   pub free : FreeSlotsAreEmpty k.metadata
@@ -75,8 +74,8 @@ pub record IsSound (k : Stored) : Type 0 where
   pub placed : k.is_broken ≡ false → k.journal.placed ≡ []
   pub clean : k.is_broken ≡ false → k.metadata.marks ≡ replicate (length k.metadata.marks) false
 
--- A store fits a disk at a state: its journal fits the disk, nothing is staged, and by the blocks that the disk keeps, what memory keeps is
--- written there and tells the state. So every image of the disk stands for the state.
+-- A store fits a disk at a state: its journal fits the disk, and nothing is staged. By the blocks that the disk keeps, the contents of
+-- memory are written there and represent the state. So every image of the disk represents the state.
 pub record StoreFits (k : Stored) (m : Meaning) (s : State) : Type 0 where
   pub kept : ℕ → List ℕ
   pub journal : Fits k.journal m kept
@@ -85,7 +84,8 @@ pub record StoreFits (k : Stored) (m : Meaning) (s : State) : Type 0 where
   pub tells : Tells k.metadata kept s
   pub written : IsWritten k.metadata kept
 
--- Changes are held back: each image of the disk stands for the base, and by what the disk keeps under what is staged, memory tells the state.
+-- Changes are held back: each image of the disk represents the base. By what the disk keeps, with the staged blocks over it, memory
+-- represents the state.
 pub record StoreHolds (k : Stored) (m : Meaning) (base s : State) : Type 0 where
   pub kept : ℕ → List ℕ
   pub journal : Fits k.journal m kept
@@ -95,7 +95,7 @@ pub record StoreHolds (k : Stored) (m : Meaning) (base s : State) : Type 0 where
   pub tells : Tells k.metadata (looked k.journal.staged kept) s
   pub written : IsWritten k.metadata (looked k.journal.staged kept)
 
--- what is kept where there are no words, axioms and files
+-- the metadata without words, axioms and files
 abbrev pub empty_metadata : Limits → ℕ → Metadata
 empty_metadata limits blocks = record {
   limits = limits;
@@ -116,7 +116,7 @@ empty_stored limits blocks = record {
   is_broken = false;
 }
 
--- Where the disk reads as these bytes, `index` is the index block of the file in the slot, if it has one.
+-- If the disk reads as these bytes, `index` is the index block of the file in the slot, if it has one.
 abbrev pub IsIndex : Stored → List ℕ → ℕ → List ℕ → Type 0
 IsIndex k bytes slot index =
     (rec : FileRecord) → rec_at k.metadata.catalog slot ≡ Some rec → is_large rec.size ≡ true

@@ -1,4 +1,4 @@
--- Tests that are declared and that go: what descriptions gain and lose.
+-- Tests that are declared and removed: what descriptions gain and lose.
 use Rattle.std.specs.Prelude.{◌-◌, ℕ, ◌==◌, nat_lt, Bool, false, not, ◌&&◌, Option, None, List, [], length, filter, ◌≡◌, ◌<◌, ◌≤◌, ◌∷◌, IsTrue}
 use Rattle.std.specs.List.{list_any, range_with_len}
 use Rattle.lis_limits.specs.declared.TheConstants.{MAX_DESCRIPTION, MAX_NODES}
@@ -17,7 +17,7 @@ use Rattle.lis_kept.specs.Telling.{words_told}
 use Rattle.lis_store.specs.Placing.{AreNumbersOf}
 
 -- ---- a new test
--- a file meets the test, and would have too many words with it and with what it gains
+-- a file meets the test, and would have too many words with the test and with what it gains
 abbrev pub is_crowded : Metadata → Option Test → List ℕ → ℕ → Bool
 is_crowded k test numbers slot = is_met_at k test slot && nat_lt (MAX_DESCRIPTION - 1) (length (wider k (is_gained k numbers) slot))
 
@@ -34,27 +34,27 @@ pub record MayDeclare (k : Metadata) (word : List ℕ) (numbers : List ℕ) : Ty
   pub few : has_crowded k (test_of word) numbers ≡ false
   pub short : length numbers ≤ MAX_NODES
 
--- The description in a slot, where the number is that of a new test: a file that meets it has it, and all that its words entail then.
+-- The description in a slot, if the number is that of a new test: a file that meets the test gets it, and all that its words then entail.
 abbrev pub tested : Metadata → Option Test → ℕ → ℕ → List ℕ
 tested k test number = anew k (is_met_at k test) (λ slot. number ∷ numbers_at k.ext slot)
 
--- The word is declared under others, and files that meet it have it.
+-- The word is declared under others, and files that meet it get it.
 pub record DeclaresTested (word : List ℕ) (rights : List ℕ) (p q : Metadata) : Type 0 where
   pub made : Metadata
   pub stands : DeclaresUnder word rights p made
   pub sound : AreSound made
   pub gives : Redescribes (tested made (test_of word) stands.declares.number) made.limits.files made q
 
--- ---- a word that goes
+-- ---- a word whose declaration is removed
 -- the description in a slot without a number
 abbrev pub without_number : Metadata → ℕ → ℕ → List ℕ
 without_number k number slot = filter (λ n. not (n == number)) (numbers_at k.ext slot)
 
--- what memory keeps, but for all descriptions
+-- the metadata without all descriptions
 abbrev pub undescribed : Metadata → Metadata
 undescribed k = record k { ext = record k.ext { sets = [] } }
 
--- No description has the number, and then its word is not declared any more.
+-- No description has the number any more, and then its word is no longer declared.
 pub record UndeclaresUnmet (number : ℕ) (p q : Metadata) : Type 0 where
   pub made : Metadata
   pub takes : Redescribes (without_number p number) p.limits.files p made

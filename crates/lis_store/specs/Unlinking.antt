@@ -1,4 +1,4 @@
--- An axiom that is taken away, and what is left of the descriptions that have its left word.
+-- An axiom that is removed, and what remains of the descriptions that have its left word.
 use Rattle.std.specs.Prelude.{◌≡◌, ℕ, true, Option, Some, None, List, [], ◌∷◌}
 use Rattle.std.specs.Option.{option_to_list}
 use Rattle.lis_dict.specs.Dict.{Dict, word_of}
@@ -14,7 +14,7 @@ use Rattle.lis_store.specs.declared.closing.Rebuild.TheVariants.{Losing}
 use Rattle.lis_store.specs.Redescribing.{Redescribes}
 
 -- ---- the axiom
--- it is kept, and leads from the word of the one number to that of the other, which is plain
+-- there is this axiom, and it leads from the word of the one number to that of the other, which is plain
 pub record IsAxiomAt (k : Metadata) (l r : List ℕ) (left right : ℕ) : Type 0 where
   pub is_left : word_of k.dict left ≡ Some l
   pub is_right : word_of k.dict right ≡ Some r
@@ -30,7 +30,8 @@ heads_by dict (Some word) = option_to_list (head_number dict word)
 abbrev pub with_head : Dict → ℕ → List ℕ
 with_head dict left = left ∷ heads_by dict (word_of dict left)
 
--- The axiom goes, then what descriptions have by it alone, and last its left word and the head of that, where nothing else uses them.
+-- The axiom is removed, then what descriptions have by it alone, and last its left word and the head of that word, if nothing else uses
+-- them.
 pub record TakesAxiom (left right : ℕ) (p q : Metadata) : Type 0 where
   pub unlinked : Metadata
   pub unlinks : Unlinks left right p unlinked

@@ -1,4 +1,4 @@
--- What each change makes of a situation.
+-- What each change does to a situation.
 use Rattle.std.specs.Prelude.{◌≡◌, ℕ, ◌≤◌, length, IsTrue, ⊤}
 use Rattle.lis_ports.specs.Meaning.{Meaning}
 use Rattle.lis_ports.specs.Calls.{IsUnchanged}
@@ -19,13 +19,13 @@ written now (Remove name) = rm now name.now
 written now (Retag name text) = mv now name.now text.now
 written now (Rename name other) = rename now name.now other.now
 
--- Bytes are as many as is said, where a file may have so many.
+-- There are as many bytes as the size says, if a file may have this many.
 abbrev pub IsWhole : ℕ → Write → Type 0
 IsWhole version (Add file) = file.size ≤ file_limit version → length file.bytes.now ≡ file.size
 IsWhole version (WriteBytes name bytes size) = size ≤ file_limit version → length bytes.now ≡ size
 IsWhole version write = ⊤
 
--- What a refusal leaves of a disk: it makes no call of it, but for `rename`, which reads bytes first.
+-- What a refusal leaves of a disk: it makes no disk call, except for `rename`, which reads bytes first.
 abbrev pub LeavesUntouched : {D : Type 0} → (D → Meaning) → Write → D → D → Type 0
 LeavesUntouched meaning (Rename name other) old new = IsTrue (meaning old).is_honest → IsUnchanged (meaning old) (meaning new)
 LeavesUntouched meaning write old new = new ≡ old

@@ -63,7 +63,7 @@ pub(crate) fn numbers_of(
     numbers_found(search)
 }
 
-// The numbers of all words that these entail, and the declared tests that so many bytes meet.
+// The numbers of all words that these entail, and of all that the declared tests entail that this many bytes meet.
 pub(crate) fn numbers_entailed(
     metadata: &Metadata,
     assigned: &[Word],

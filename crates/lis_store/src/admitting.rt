@@ -36,7 +36,7 @@ pub(crate) fn file_limit(version: u32) -> u64
     }
 }
 
-/// How many blocks so many bytes take.
+/// How many blocks this many bytes take.
 pub(crate) fn blocks_taken(version: u32, size: u64) -> u64
     ensures { result ≡ blocks_taken version size }
 {
@@ -48,7 +48,7 @@ pub(crate) fn blocks_taken(version: u32, size: u64) -> u64
     }
 }
 
-/// A file that is to be made: its name, the words that it is given, and its bytes, of which there are to be `size`.
+/// A file to be made: its name, the named words that are assigned to it, and its bytes. `size` says how many bytes it has.
 #[derive(Clone, Copy)]
 pub struct NewFile<'a> {
     pub name: &'a Name,
@@ -64,7 +64,7 @@ fn has_built_in(words: &[Word]) -> bool
     words.iter().any(|word| is_builtin(word))
 }
 
-// Whether the word can't be given to a file, as a head or a test.
+// Whether the word is a head or a test, and so can't be assigned to a file.
 fn is_head_or_test(word: &Word) -> bool
     ensures { result ≡ is_head_or_test word.now }
 {
@@ -81,7 +81,7 @@ fn has_head_or_test(words: &[Word]) -> bool
     words.iter().any(|word| is_head_or_test(word))
 }
 
-// The words that a new file would be given, or what its size, its name, its place and the named words are refused for.
+// The words that would be assigned to a new file, or what its size, its name, its place and the named words are refused for.
 fn may_name(
     metadata: &Metadata,
     place: &Place,
@@ -118,7 +118,7 @@ fn may_name(
     }
 }
 
-// Whether there is room for a new file, of so many bytes.
+// Whether there is room for a new file of this many bytes.
 fn has_room_for(
     metadata: &Metadata,
     search: &mut Search,
@@ -147,7 +147,7 @@ fn has_room_for(
     Ok(())
 }
 
-// As `has_room_for`, with the words that are derived from these bytes. They are the answer.
+// As `has_room_for`, with the words that are derived from these bytes. It returns these words.
 fn has_room(
     metadata: &Metadata,
     search: &mut Search,
@@ -169,8 +169,7 @@ fn has_room(
     Ok(derived)
 }
 
-/// The words of a new file, or what it is refused for. Where there are more bytes than a file may have, only their
-/// number counts.
+/// The words of a new file, or what the file is refused for. If there are more bytes than a file may have, only their number counts.
 pub(crate) fn may_add(
     metadata: &Metadata,
     search: &mut Search,

@@ -1,4 +1,4 @@
-//! The words that a new file is given: those of its place, and those that are named.
+//! The words that are assigned to a new file: those of its place, and those that are named.
 
 ghost use Rattle.std.specs.Prelude.{◌≡◌, ◌<◌, ◌≤◌, [], ◌∷◌, length, slice_get, is_some, IsSome, MatchOption, IfSome, OnOk, IfErr};
 ghost use Rattle.std.specs.List.{flat_map, list_all, prefix_len, insert};
@@ -19,7 +19,7 @@ use lis_model::command::Tags;
 use lis_place::{Node, Place};
 use lis_words::{Word, head_of, is_builtin, is_head, is_plain_word};
 
-// Whether a node is a word, or a conjunction.
+// Whether a node is a word or a conjunction.
 fn is_conjunct(node: &Node) -> bool
     ensures { result ≡ is_conjunct node.now }
 {
@@ -47,7 +47,7 @@ pub(crate) fn has_words(place: &Place) -> bool
     are_conjuncts(place.nodes())
 }
 
-/// Whether a file that is in a place of this word can be given it.
+/// Whether the word can be assigned to a file in a place of this word.
 pub(crate) fn is_tag(word: &Word) -> bool
     ensures { result ≡ is_tag word.now }
 {
@@ -70,14 +70,14 @@ fn is_assignable(metadata: &Metadata, word: &Word) -> bool
     }
 }
 
-/// Whether a file can be given each of the words.
+/// Whether each of the words can be assigned to a file.
 pub(crate) fn all_assignable(metadata: &Metadata, words: &[Word]) -> bool
     ensures { result ≡ list_all (is_assignable (declared_of metadata.now)) words.now }
 {
     words.iter().all(|word| is_assignable(metadata, word))
 }
 
-// Whether a file can be given the word of a node, where it is a tag.
+// Whether the word of a node, if it is a tag, can be assigned to a file.
 fn is_assignable_node(metadata: &Metadata, node: &Node) -> bool
     ensures { result ≡ list_all (is_assignable (declared_of metadata.now)) (node_tags node.now) }
 {
@@ -90,14 +90,14 @@ fn is_assignable_node(metadata: &Metadata, node: &Node) -> bool
     is_assignable(metadata, word)
 }
 
-// Whether a file can be given the words of all nodes that are tags.
+// Whether the words of all nodes that are tags can be assigned to a file.
 fn all_assignable_nodes(metadata: &Metadata, nodes: &[Node]) -> bool
     ensures { result ≡ list_all (λ node. list_all (is_assignable (declared_of metadata.now)) (node_tags node)) nodes.now }
 {
     nodes.iter().all(|node| is_assignable_node(metadata, node))
 }
 
-/// Whether a file can be given all words that a new one is given at the place.
+/// Whether all words that are assigned to a new file at the place can be assigned.
 pub(crate) fn are_assignable(metadata: &Metadata, place: &Place, tags: &Tags) -> bool
     requires { IsSome (place_words place.now) }
     ensures { result ≡ list_all (is_assignable (declared_of metadata.now)) (assigned_at place.now tags.now) }
@@ -108,7 +108,7 @@ pub(crate) fn are_assignable(metadata: &Metadata, place: &Place, tags: &Tags) ->
     all_assignable(metadata, tags.as_slice())
 }
 
-// How many of the words, up to the first other one, are lower.
+// How many words at the beginning are lower than the word.
 fn place_of(words: &[Word], word: &Word) -> usize
     ensures { result ≡ prefix_len (λ held. is_gt (word_cmp word.now held)) words.now }
 {
@@ -118,7 +118,7 @@ fn place_of(words: &[Word], word: &Word) -> usize
         .count()
 }
 
-// Whether the word stands at the place.
+// Whether the words have the word at this index.
 fn stands_at(words: &[Word], place: usize, word: &Word) -> bool
     ensures { result ≡ is_held (slice_get words.now place) word.now }
 {
@@ -128,7 +128,7 @@ fn stands_at(words: &[Word], place: usize, word: &Word) -> bool
     }
 }
 
-// Where the word stands in a set of words, or else where it would.
+// The index of the word in a set of words, or, as an error, the index where it would be inserted.
 fn find_place(words: &[Word], word: &Word) -> Result<usize, usize>
     ensures there { OnOk result (with_word words.now word.now ≡ words.now) }
     ensures new { IfErr result (λ place. insert words.now place word.now ≡ with_word words.now word.now) }
@@ -142,7 +142,7 @@ fn find_place(words: &[Word], word: &Word) -> Result<usize, usize>
     }
 }
 
-/// Puts a word into a set of words. The answer tells whether there is room for it.
+/// Puts a word into a set of words. The result says whether there was room for it.
 pub(crate) fn put_word(words: &mut ArrayVec<Word, 16>, word: &Word) -> bool
     requires { length words.old.items ≤ MAX_ASSIGNED }
     ensures { Takes (word.now ∷ []) words.old.items words.new.items result }
@@ -159,7 +159,7 @@ pub(crate) fn put_word(words: &mut ArrayVec<Word, 16>, word: &Word) -> bool
     }
 }
 
-// Puts the word of a node into a set of words, if a file can be given it.
+// Puts the word of a node into a set of words, if the word is a tag.
 fn put_node(words: &mut ArrayVec<Word, 16>, node: &Node) -> bool
     requires { length words.old.items ≤ MAX_ASSIGNED }
     ensures { Takes (node_tags node.now) words.old.items words.new.items result }
@@ -199,7 +199,7 @@ fn put_words(words: &mut ArrayVec<Word, 16>, more: &[Word]) -> bool
     true
 }
 
-/// The words that a new file is given, a set. None comes exactly where they are more than 16.
+/// The words that are assigned to a new file, as a set. The result is `None` exactly if there are more than 16.
 pub(crate) fn assigned(place: &Place, tags: &Tags) -> Option<ArrayVec<Word, 16>>
     requires { IsSome (place_words place.now) }
     ensures words { MatchOption result (MAX_ASSIGNED < length (assigned_at place.now tags.now)) (λ words. words.items ≡ assigned_at place.now tags.now) }

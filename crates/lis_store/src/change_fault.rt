@@ -8,7 +8,7 @@ use lis_ports::Failed;
 pub enum ChangeFault {
     /// The command is refused, and nothing was changed.
     Refused(Refusal),
-    /// A call of the disk failed. The store is broken, and what is on the disk counts.
+    /// A disk call failed. The store is broken, and only what is on the disk counts.
     Disk,
 }
 

@@ -21,11 +21,11 @@ use lis_words::Test;
 /// Which descriptions are made again, and of which numbers.
 #[derive(Clone, Copy)]
 pub(crate) enum Rebuild {
-    /// Those that have the number, of all their numbers.
+    /// Those that have the number, from all their numbers.
     Having(u16),
-    /// Those that have the left number, of their numbers that need no axiom to the right one.
+    /// Those that have the left number, from their numbers that need no axiom to the right one.
     Losing(u16, u16),
-    /// Those of files that meet the test, of the number and all their own.
+    /// Those of files that meet the test, from the number and all their own.
     Meeting(Test, u16),
 }
 
@@ -90,7 +90,7 @@ fn is_base(metadata: &Metadata, how: Rebuild, slot: u16, number: u16, lost: &Sea
     !lost.has(u32::from(number)) || is_given(metadata, slot, number)
 }
 
-// A number that a description gets which had it not.
+// A number that a description gets and did not have.
 fn added(how: Rebuild) -> ArrayVec<u16, 129>
     ensures { result.items ≡ added how }
 {

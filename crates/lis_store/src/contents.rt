@@ -1,4 +1,4 @@
-//! Contents of files that are put on the disk, put in the place of others, and given back. A fault of the disk breaks the store.
+//! Contents of files that are put on the disk, replaced and freed. A disk fault breaks the store.
 
 ghost use Rattle.std.specs.Prelude.{◌≡◌, ◌≤◌, Some, true, false, length, IsSome, IfSome, OnErr};
 ghost use Rattle.lis_journal.specs.Images.{JournalIsUsable};
@@ -22,7 +22,7 @@ use lis_kept::Metadata;
 use lis_ports::Disk;
 
 impl Memory {
-    // Puts bytes into free blocks, and answers the numbers that a slot has of them.
+    // Puts bytes into free blocks, and returns the block numbers that the slot gets.
     fn put_content<D: Disk>(
         &mut self,
         disk: &mut D,
@@ -44,7 +44,7 @@ impl Memory {
         }
     }
 
-    /// Gives the blocks of the file in a slot back.
+    /// Frees the blocks of the file in a slot.
     pub(crate) fn free_content<D: Disk>(
         &mut self,
         disk: &mut D,
@@ -68,7 +68,7 @@ impl Memory {
         }
     }
 
-    // Puts bytes into blocks in the place of those of the file in a slot, and answers the numbers that a slot has of them. In version 1
+    // Puts bytes into blocks, instead of the bytes of the file in a slot, and returns the block numbers that the slot gets. In version 1
     // the blocks of that file may be used again; in version 2 they stay until the command is done.
     fn put_instead<D: Disk>(
         &mut self,
@@ -94,8 +94,8 @@ impl Memory {
         self.put_content(disk, payload)
     }
 
-    /// Puts bytes into blocks, in the place of those of the file in the slot if one is told, and answers the numbers that a slot has of
-    /// them.
+    /// Puts bytes into blocks, instead of the bytes of the file in the slot if a slot is given. It returns the block numbers that the slot
+    /// gets.
     pub(crate) fn put_anew<D: Disk>(
         &mut self,
         disk: &mut D,
@@ -117,7 +117,7 @@ impl Memory {
     }
 }
 
-/// The numbers of blocks that the slot of a file has.
+/// The block numbers in the slot of a file.
 pub(crate) fn blocks_in(metadata: &Metadata, slot: u16) -> ArrayVec<u16, 16>
     requires { IsSome (rec_at metadata.now.catalog slot) }
     ensures { (rec : FileRecord) → rec_at metadata.now.catalog slot ≡ Some rec → result.items ≡ rec.blocks }

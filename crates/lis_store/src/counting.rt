@@ -1,4 +1,4 @@
-//! How much a store has, and its axioms.
+//! The counts of a store, and its axioms.
 
 ghost use Rattle.std.specs.Prelude.{◌≡◌, length, count_by};
 ghost use Rattle.std.specs.List.{find};
@@ -22,7 +22,7 @@ pub struct Counts {
 }
 
 impl Store {
-    /// How much there is. The axioms are counted slot by slot.
+    /// The counts of the store. The axioms are counted slot by slot.
     pub fn counts(&self) -> Counts
         ensures files { result.files ≡ length self.now.metadata.catalog.entries }
         ensures known { result.known ≡ length self.now.metadata.dict.entries }
@@ -39,8 +39,8 @@ impl Store {
         }
     }
 
-    /// Of the words to which axioms lead from a word, the first in byte order that comes behind the last one, where one is given: so
-    /// a loop takes the axioms of a word in order. It looks once at each slot of an axiom.
+    /// Of the words to which axioms lead from a word, the first one in byte order, or, if `last` is given, the first one after it. So a
+    /// loop gets the right sides of a word in order. One call looks once at each axiom slot.
     pub fn axiom_behind(&self, left: &Word, last: Option<&Word>) -> Option<Word>
         ensures { result ≡ find (is_behind (option_map (λ w. w.now) last.entry)) (rights_of (axioms_of self.now.metadata) left.now) }
     {

@@ -51,7 +51,7 @@ fn wider_count(metadata: &Metadata, gained: &Search, slot: u16) -> u32
     count
 }
 
-/// Whether it would have more than so many.
+/// Whether the description in a slot would have more than `most` numbers with those that were found.
 pub(crate) fn is_full(metadata: &Metadata, gained: &Search, slot: u16, most: u32) -> bool
     requires sound { AreSound metadata.now }
     requires slot { slot < metadata.now.limits.files }
@@ -62,7 +62,7 @@ pub(crate) fn is_full(metadata: &Metadata, gained: &Search, slot: u16, most: u32
     wider_count(metadata, gained, slot) > most
 }
 
-// Whether a file meets the test, and would have too many words with it and with what it gains.
+// Whether a file meets the test, and would have too many words with the test and with what it gains.
 fn is_crowded(metadata: &Metadata, test: Test, gained: &Search, slot: u16) -> bool
     requires sound { AreSound metadata.now }
     requires slot { slot < metadata.now.limits.files }
@@ -75,7 +75,7 @@ fn is_crowded(metadata: &Metadata, test: Test, gained: &Search, slot: u16) -> bo
     is_full(metadata, gained, slot, MAX_DESCRIPTION as u32 - 1)
 }
 
-/// Whether some file does, where the word is a test and gains what these numbers entail.
+/// Whether the word is a test, and some file meets it and would have too many words with the test and with what these numbers entail.
 pub(crate) fn has_crowded(
     metadata: &Metadata,
     word: &Word,

@@ -21,7 +21,7 @@ use lis_model::derived::Derived;
 use lis_taxonomy::Search;
 use lis_words::{Name, Word, head_of};
 
-/// A file as a change tells it: of its bytes only how many they are, and which words are derived from them and its name.
+/// A file as a change describes it: how many bytes it has, and which words are derived from them and its name, but not the bytes.
 #[derive(Clone, Copy)]
 pub(crate) struct Draft<'a> {
     pub(crate) name: &'a Name,

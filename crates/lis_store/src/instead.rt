@@ -1,4 +1,4 @@
-//! What a file is refused for that would come into the place of another.
+//! What a file is refused for that would replace another.
 
 ghost use Rattle.std.specs.Prelude.{◌≡◌, ◌≤◌, Some, None, length, IsSome, IfOk};
 ghost use Rattle.std.specs.List.{flat_map};
@@ -51,7 +51,7 @@ fn words_of(metadata: &Metadata, numbers: &[u16]) -> ArrayVec<Word, 16>
     words
 }
 
-/// The words that the file in a slot was given.
+/// The words that are assigned to the file in a slot.
 pub(crate) fn assigned_in(metadata: &Metadata, slot: u16) -> ArrayVec<Word, 16>
     requires { IsSome (rec_at metadata.now.catalog slot) }
     ensures words { (rec : FileRecord) → rec_at metadata.now.catalog slot ≡ Some rec → result.items ≡ words_told metadata.now.dict rec.tags }
@@ -102,7 +102,7 @@ fn own_among(metadata: &Metadata, numbers: &[u16]) -> ArrayVec<Word, MAX_DESCRIP
     words
 }
 
-/// The derived words of the file in a slot and their heads, as its description has kept them.
+/// The derived words of the file in a slot and their heads, taken from its description.
 pub(crate) fn own_in(metadata: &Metadata, slot: u16) -> ArrayVec<Word, MAX_DESCRIPTION>
     requires there { IsSome (rec_at metadata.now.catalog slot) }
     requires short { DescriptionsAreShort metadata.now }
@@ -112,7 +112,7 @@ pub(crate) fn own_in(metadata: &Metadata, slot: u16) -> ArrayVec<Word, MAX_DESCR
     own_among(metadata, metadata.numbers(slot))
 }
 
-// How many blocks are free for other bytes of the file in a slot.
+// How many blocks are free for new bytes of the file in a slot.
 fn free_instead(metadata: &Metadata, slot: u16) -> u64
     requires { IsSome (rec_at metadata.now.catalog slot) }
     ensures { (rec : FileRecord) → rec_at metadata.now.catalog slot ≡ Some rec → result ≡ free_instead metadata.now rec }
@@ -124,7 +124,7 @@ fn free_instead(metadata: &Metadata, slot: u16) -> u64
     free + metadata.taken_blocks(slot) as u64
 }
 
-/// Whether the words of a file may stand in the place of those of the file in a slot.
+/// Whether the words of a file may replace those of the file in a slot.
 pub(crate) fn may_stand_instead(
     metadata: &Metadata,
     search: &mut Search,
@@ -139,7 +139,7 @@ pub(crate) fn may_stand_instead(
         (drafted draft.entry.name.now draft.entry.size draft.entry.assigned.now draft.entry.own.now)) result }
 {
     let limits = metadata.limits();
-    // The words of a told file may be given. Memory alone does not tell so.
+    // The words of a file of a state can be assigned. The contents of memory alone do not imply this, so it is checked.
     if !all_assignable(metadata, draft.assigned) {
         return Err(Refusal::UnknownProperty);
     }
@@ -153,7 +153,7 @@ pub(crate) fn may_stand_instead(
     Ok(())
 }
 
-// As `may_stand_instead`, with the words that are derived from these bytes. They are the answer.
+// As `may_stand_instead`, with the words that are derived from these bytes. It returns these words.
 fn has_room_instead(
     metadata: &Metadata,
     search: &mut Search,
@@ -179,8 +179,8 @@ fn has_room_instead(
     Ok(derived)
 }
 
-/// The words of the file in a slot with these bytes in the place of its own, or what it is refused for with them. `name` is its name.
-/// Where there are more bytes than a file may have, only their number counts.
+/// The words that the file in a slot would have with these bytes instead of its own, or what it is refused for with them. `name` is its
+/// name. If there are more bytes than a file may have, only their number counts.
 pub(crate) fn may_write(
     metadata: &Metadata,
     search: &mut Search,
@@ -205,8 +205,8 @@ pub(crate) fn may_write(
     Ok(FileWords { assigned, derived })
 }
 
-/// The words of the file in a slot under another name, which no file has, or what it is refused for under it. `payload` are its
-/// bytes.
+/// The words that the file in a slot would have under another name, which no file has, or what it is refused for under that name. `payload`
+/// has its bytes.
 pub(crate) fn may_rename(
     metadata: &Metadata,
     search: &mut Search,

@@ -23,7 +23,7 @@ use lis_place::Place;
 use lis_taxonomy::Search;
 use lis_words::{Word, is_builtin, is_valued};
 
-// The numbers of the place's words, where the word is a new one, and these are plain words that are declared.
+// The numbers of the place's words, if the word is new and these are declared plain words.
 fn may_place(
     metadata: &Metadata,
     place: &Place,
@@ -79,7 +79,7 @@ fn has_room(
     Ok(())
 }
 
-/// The numbers of the place's words, where a word may be declared at the place.
+/// The numbers of the place's words, if the word may be declared at the place.
 pub(crate) fn may_declare(
     metadata: &Metadata,
     place: &Place,
@@ -97,7 +97,7 @@ pub(crate) fn may_declare(
     Ok(numbers)
 }
 
-/// The number of a word whose declaration may be taken back.
+/// The number of a word whose declaration may be removed.
 pub(crate) fn may_undeclare(metadata: &Metadata, word: &Word) -> Result<u16, Refusal>
     requires sound { AreSound metadata.now }
     ensures row { Judges (undeclare_checks metadata.now word.now) result }

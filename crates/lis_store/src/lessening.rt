@@ -1,4 +1,4 @@
-//! An axiom that leaves memory, and descriptions without it.
+//! An axiom that is removed from memory, and descriptions without it.
 
 ghost use Rattle.std.specs.Prelude.{◌≡◌, IsSome};
 ghost use Rattle.lis_dict.specs.Dict.{word_of};
@@ -31,7 +31,7 @@ fn with_head(metadata: &Metadata, left: u16) -> ArrayVec<u16, 2>
     numbers
 }
 
-/// Takes an axiom away, with all that descriptions have by it alone, and with the words that nothing uses any more.
+/// Removes an axiom, with all that descriptions have by it alone, and with the words that nothing uses any more.
 pub(crate) fn take_axiom(metadata: &mut Metadata, left: u16, right: u16, search: &mut Search)
     requires form { AreInForm metadata.old }
     requires may { MayUnlink left right metadata.old }

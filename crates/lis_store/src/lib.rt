@@ -1,6 +1,6 @@
-//! A store over what memory keeps: a state on an image, what memory keeps of it, and calls that read and change both. Opening joins its
-//! parts; truth and listings see it as a view; words are declared and taken back, axioms come and go, and files are made, read, changed
-//! and removed. The laws say what images it stands for.
+//! A store over what memory keeps: a state on an image, what memory keeps of it, and calls that change both. Opening joins its parts; truth
+//! and listings see it as a view. Calls declare words and remove declarations, add and remove axioms, and make, read, change and remove
+//! files. The laws say what images it represents.
 #![tactic(auto)]
 
 mod adding;

@@ -44,7 +44,7 @@ pub(crate) fn has_plain_words(place: &Place) -> bool
     are_plain_conjuncts(place.nodes())
 }
 
-// The number of a word that is declared.
+// The number of a word, if it is declared.
 fn declared_number(metadata: &Metadata, word: &Word) -> Option<u16>
     ensures { result ≡ declared_number metadata.now word.now }
 {
@@ -61,7 +61,7 @@ fn has_number(numbers: &[u16], number: u16) -> bool
     numbers.iter().any(|held| *held == number)
 }
 
-// Puts the number of a word to others, if it is declared.
+// Adds the number of a word to the others, if the word is declared. The result says whether it is.
 fn take_number(metadata: &Metadata, numbers: &mut ArrayVec<u16, MAX_NODES>, word: &Word) -> bool
     requires sound { AreSound metadata.now }
     requires room { length numbers.old.items < MAX_NODES }
@@ -77,7 +77,7 @@ fn take_number(metadata: &Metadata, numbers: &mut ArrayVec<u16, MAX_NODES>, word
     true
 }
 
-// Puts the number of a node's word to others, if it is declared.
+// Adds the number of a node's word to the others, if the word is declared. The result says whether it is.
 fn take_node(metadata: &Metadata, numbers: &mut ArrayVec<u16, MAX_NODES>, node: &Node) -> bool
     requires sound { AreSound metadata.now }
     requires room { length numbers.old.items < MAX_NODES }
@@ -89,7 +89,7 @@ fn take_node(metadata: &Metadata, numbers: &mut ArrayVec<u16, MAX_NODES>, node: 
     take_number(metadata, numbers, word)
 }
 
-/// The numbers of the words of the place, each once. None comes exactly where some word is not declared.
+/// The numbers of the words of the place, each once. The result is `None` exactly if some word is not declared.
 pub(crate) fn place_numbers(metadata: &Metadata, place: &Place) -> Option<ArrayVec<u16, MAX_NODES>>
     requires sound { AreSound metadata.now }
     requires place { IsSome (place_words place.now) }

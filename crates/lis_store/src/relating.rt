@@ -31,7 +31,7 @@ fn is_plain_or_test(word: &Word) -> bool
     test_of(word).is_some()
 }
 
-// Whether the word is a declared one that is plain or a test.
+// Whether the word is declared, and is plain or a test.
 fn is_named(metadata: &Metadata, word: &Word) -> bool
     ensures { result ≡ ((is_plain_word word.now || is_test word.now) && has_word (declared_of metadata.now) word.now) }
 {
@@ -77,7 +77,7 @@ fn is_nameable(metadata: &Metadata, word: &Word) -> bool
     has_known_head(metadata, word)
 }
 
-/// The numbers of the two words of an axiom, if it is kept.
+/// The numbers of the two words of an axiom, if there is this axiom.
 pub(crate) fn axiom_numbers(metadata: &Metadata, left: &Word, right: &Word) -> Option<(u16, u16)>
     requires sound { AreSound metadata.now }
     ensures there { is_some result ≡ has_axiom (axioms_of metadata.now) (left.now, right.now) }
@@ -131,7 +131,7 @@ fn lacked_with_head(metadata: &Metadata, word: &Word) -> u32
     }
 }
 
-// Whether the description in a slot has the left number, and would have more words than it may with those that were found.
+// Whether the description in a slot has the left number, and would have too many words with those that were found.
 fn is_overfull(metadata: &Metadata, gained: &Search, slot: u16, left: u16) -> bool
     requires sound { AreSound metadata.now }
     requires slot { slot < metadata.now.limits.files }
@@ -146,7 +146,7 @@ fn is_overfull(metadata: &Metadata, gained: &Search, slot: u16, left: u16) -> bo
     is_full(metadata, gained, slot, MAX_DESCRIPTION as u32)
 }
 
-// Whether a description that has the left word would have more words than it may.
+// Whether some description that has the left word would have too many words.
 fn has_overfull(
     metadata: &Metadata,
     left: &Word,

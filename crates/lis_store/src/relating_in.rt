@@ -1,4 +1,4 @@
-//! Axioms that come into memory.
+//! Axioms that are added to memory.
 
 ghost use Rattle.lis_store.specs.Relating.{MayRelate};
 ghost use Rattle.lis_store.specs.RelatingIn.{RelatesIn};
@@ -10,8 +10,8 @@ use lis_kept::Metadata;
 use lis_taxonomy::Search;
 use lis_words::Word;
 
-/// Adds an axiom between two words: the left one and its head get numbers, and each file that has it all that the right one
-/// entails.
+/// Adds an axiom between two words: the left word and its head get numbers, and each file that has the left word gets all that the right
+/// one entails.
 pub(crate) fn relate(metadata: &mut Metadata, left: &Word, right: &Word, search: &mut Search)
     requires form { AreInForm metadata.old }
     requires may { MayRelate metadata.old left.now right.now }

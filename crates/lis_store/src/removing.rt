@@ -1,4 +1,4 @@
-//! Files that leave memory.
+//! Files that are removed from memory.
 
 ghost use Rattle.std.specs.Prelude.{◌≡◌, Some, IsSome};
 ghost use Rattle.std.specs.List.Sorted.{IsStrictlyIncreasing};
@@ -12,7 +12,7 @@ use arrayvec::ArrayVec;
 use lis_kept::Metadata;
 use lis_limits::MAX_DESCRIPTION;
 
-// The numbers of the description of the file in a slot, as a value of their own.
+// The numbers of the description of the file in a slot, as a separate value.
 fn numbers_at(metadata: &Metadata, slot: u16) -> ArrayVec<u16, MAX_DESCRIPTION>
     requires { IsSome (rec_at metadata.now.catalog slot) }
     ensures numbers { result.items ≡ set_of metadata.now.ext slot }
@@ -25,8 +25,7 @@ fn numbers_at(metadata: &Metadata, slot: u16) -> ArrayVec<u16, MAX_DESCRIPTION>
     numbers
 }
 
-/// Takes the file out of its slot, and forgets the words that nothing else uses. The slot is described as before, by the numbers that it
-/// answers.
+/// Removes the file from its slot, and the words that nothing else uses. The slot keeps its description, whose numbers are returned.
 pub(crate) fn unfile(metadata: &mut Metadata, slot: u16) -> ArrayVec<u16, MAX_DESCRIPTION>
     requires form { AreInForm metadata.old }
     requires there { IsSome (rec_at metadata.old.catalog slot) }
@@ -39,7 +38,7 @@ pub(crate) fn unfile(metadata: &mut Metadata, slot: u16) -> ArrayVec<u16, MAX_DE
     numbers
 }
 
-/// Takes the file out of its slot, with its description and the words that nothing else uses. Its blocks are given back already.
+/// Removes the file from its slot, with its description and the words that nothing else uses. Its blocks are freed already.
 pub(crate) fn take_out(metadata: &mut Metadata, slot: u16)
     requires form { AreInForm metadata.old }
     requires there { IsSome (rec_at metadata.old.catalog slot) }

@@ -1,4 +1,4 @@
-//! Files that come into memory, in the place of others or into free slots.
+//! Files that are put into memory, into free slots or instead of others.
 
 ghost use Rattle.std.specs.Prelude.{◌≡◌, ◌<◌, nat_lt, None, length, IsSome, IfSome, IsTrue};
 ghost use Rattle.std.specs.List.{list_all};
@@ -20,14 +20,14 @@ use lis_limits::MAX_DESCRIPTION;
 use lis_taxonomy::Search;
 use lis_words::Name;
 
-// The numbers of the words that a file is given, and those of its description.
+// The numbers of the words that are assigned to a file, and those of its description.
 #[derive(Drop)]
 struct Numbers {
     tags: ArrayVec<u16, 16>,
     all: ArrayVec<u16, MAX_DESCRIPTION>,
 }
 
-// A slot without a file, and the numbers by which it is described.
+// A slot without a file, and the numbers of its description.
 #[derive(Drop)]
 struct NewSlot {
     slot: u16,
@@ -64,7 +64,7 @@ fn free_slot(metadata: &Metadata) -> u16
     unreachable!()
 }
 
-// Makes room for a file in the slot, whose file goes, or in a free one.
+// Makes room for a file: in the slot if one is given, whose file is removed, or in a free slot.
 fn make_room(metadata: &mut Metadata, slot: Option<u16>) -> NewSlot
     requires form { AreInForm metadata.old }
     requires free { slot ≡ None → length metadata.old.catalog.entries < metadata.old.limits.files }
@@ -85,8 +85,8 @@ fn make_room(metadata: &mut Metadata, slot: Option<u16>) -> NewSlot
     }
 }
 
-// Files a file in a slot without one: their words come first, then the numbers of the description in the place of the old ones, and last
-// the record.
+// Puts a file into a slot without one. First its words get numbers, then the numbers of its description replace the old ones, and last
+// comes the record.
 fn settle_in(
     metadata: &mut Metadata,
     search: &mut Search,
@@ -114,7 +114,7 @@ fn settle_in(
     );
 }
 
-/// Files a file, in the place of the one in the slot if one is told. Its bytes stand in these blocks, which are taken already.
+/// Puts a file into memory, instead of the one in the slot if a slot is given. Its bytes are in these blocks, which are taken already.
 pub(crate) fn replace_draft(
     metadata: &mut Metadata,
     search: &mut Search,
@@ -133,7 +133,7 @@ pub(crate) fn replace_draft(
     settle_in(metadata, search, &new_slot, draft, blocks);
 }
 
-/// As `replace_draft`, with the words of a file and its bytes.
+/// As `replace_draft`, for the words of a file and its bytes.
 pub(crate) fn replace_record(
     metadata: &mut Metadata,
     search: &mut Search,

@@ -40,7 +40,7 @@ pub(crate) fn place_or_refusal(place: &Place, text: &Text) -> Result<Place, Refu
     }
 }
 
-// Whether the word of the node is built in, where it has one.
+// Whether the node has a word, and it is built in.
 fn is_built_in(node: &Node) -> bool
     ensures { result ≡ list_any is_built_in (node_words node.now) }
 {
@@ -57,7 +57,7 @@ fn has_built_in(nodes: &[Node]) -> bool
     nodes.iter().any(|node| is_built_in(node))
 }
 
-// Whether the word of the node is a head, where it has one.
+// Whether the node has a word, and it is a head.
 fn is_head_node(node: &Node) -> bool
     ensures { result ≡ list_any is_head (node_words node.now) }
 {
@@ -87,7 +87,7 @@ fn may_name_nodes(nodes: &[Node]) -> Result<(), Refusal>
     Ok(())
 }
 
-// What the words of a text are refused for that leads from some place to another. The text `..` has none.
+// What the words of a text are refused for, if the text leads from some place to another. The text `..` has no words.
 fn may_name_text(text: &[u8]) -> Result<(), Refusal>
     ensures { (place new : List Formula) → resolved place text.now ≡ NewPlace new → Judges (text_checks (text_words text.now)) result }
 {
@@ -99,7 +99,7 @@ fn may_name_text(text: &[u8]) -> Result<(), Refusal>
 
 // ---- the words
 
-// Whether the word is that of the node, if a file can be given it.
+// Whether the word is that of the node, and is a tag.
 fn is_node_tag(node: &Node, word: &Word) -> bool
     ensures { result ≡ has_word (node_tags node.now) word.now }
 {
@@ -112,14 +112,14 @@ fn is_node_tag(node: &Node, word: &Word) -> bool
     held == word
 }
 
-// Whether the word is that of one of the nodes, if a file can be given it.
+// Whether the word is that of one of the nodes, and is a tag.
 fn has_tag(nodes: &[Node], word: &Word) -> bool
     ensures { result ≡ list_any (λ node. has_word (node_tags node) word.now) nodes.now }
 {
     nodes.iter().any(|node| is_node_tag(node, word))
 }
 
-// The words without those of the nodes that a file can be given.
+// The words without the tags of the nodes.
 fn without_tags(words: &[Word], nodes: &[Node]) -> ArrayVec<Word, 16>
     requires { length words.now ≤ MAX_ASSIGNED }
     ensures words { result.items ≡ filter (λ word. not (list_any (λ node. has_word (node_tags node) word) nodes.now)) words.now }
@@ -134,8 +134,8 @@ fn without_tags(words: &[Word], nodes: &[Node]) -> ArrayVec<Word, 16>
     kept
 }
 
-// The words of a file, a set, without the tags of one place and with those of another. None comes exactly where they are more
-// than 16.
+// The words of a file, a set, without the tags of one place and with those of another. The result is `None` exactly if there are more than
+// 16.
 fn retagged(words: &[Word], here: &Place, there: &Place) -> Option<ArrayVec<Word, 16>>
     requires here { IsSome (place_words here.now) }
     requires there { IsSome (place_words there.now) }
@@ -151,7 +151,7 @@ fn retagged(words: &[Word], here: &Place, there: &Place) -> Option<ArrayVec<Word
     Some(moved)
 }
 
-// The words of the file in a slot, without the tags of one place and with those of another. None comes exactly where they are more
+// The words of the file in a slot, without the tags of one place and with those of another. The result is `None` exactly if there are more
 // than 16.
 fn words_moved(
     metadata: &Metadata,
@@ -172,7 +172,7 @@ fn words_moved(
 
 // ---- the row
 
-// What both places are refused for, and the words of the text that leads from one to the other.
+// What the two places and the words of the text that leads from one to the other are refused for.
 fn may_lead(metadata: &Metadata, here: &Place, there: &Place, text: &Text) -> Result<(), Refusal>
     requires { resolved here.now text.now ≡ NewPlace there.now }
     ensures row { Judges (places_checks metadata.now here.now there.now (text_words text.now)) result }
@@ -192,8 +192,8 @@ fn may_lead(metadata: &Metadata, here: &Place, there: &Place, text: &Text) -> Re
     Ok(())
 }
 
-/// The words that the file in a slot is given in the place to which a text leads, or what it is refused for whatever its bytes
-/// are.
+/// The words that would be assigned to the file in a slot at the place to which a text leads, or what the file is refused for whatever its
+/// bytes are.
 pub(crate) fn may_move(
     metadata: &Metadata,
     slot: u16,

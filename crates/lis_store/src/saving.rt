@@ -18,7 +18,7 @@ use lis_ports::Disk;
 /// The most blocks that are held back between two calls.
 pub(crate) const MOST_HELD: u32 = 44;
 
-/// The most blocks that are held back behind a change with this content: none where it is large, and so was placed.
+/// The most blocks that are held back after a change with this content: none if the content is large, since it is placed.
 pub(crate) fn most_held(payload: &[u8]) -> u32
     requires { length payload.now ≤ MAX_PAYLOAD }
     ensures few { result ≤ 44 }
@@ -31,7 +31,7 @@ pub(crate) fn most_held(payload: &[u8]) -> u32
 }
 
 impl Memory {
-    /// Commits what is staged. A fault of the disk breaks the store.
+    /// Commits what is staged. A disk fault breaks the store.
     pub(crate) fn commit<D: Disk>(&mut self, disk: &mut D) -> Result<(), ChangeFault>
         requires usable { JournalIsUsable self.old.journal (D.meaning disk.old) }
         requires whole { self.old.is_broken ≡ false }
@@ -49,8 +49,8 @@ impl Memory {
         Ok(())
     }
 
-    /// Stages all marked blocks, so that nothing is marked, and commits what is staged where it is more than `most` blocks. Where
-    /// something is placed, `most` is 0.
+    /// Stages all marked blocks, so that nothing is marked. If more than `most` blocks are staged, it commits them. If something is placed,
+    /// `most` is 0.
     pub(crate) fn hold<D: Disk>(&mut self, disk: &mut D, most: u32) -> Result<(), ChangeFault>
         requires ready { MayBeSaved (stored self.old) }
         requires usable { IsUsable (stored self.old) (D.meaning disk.old) }

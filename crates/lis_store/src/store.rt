@@ -50,8 +50,8 @@ pub struct Built {
     pub bytes: Buffer,
 }
 
-/// What memory keeps of an image, and its journal. It holds no bytes of files but those in open records and those of the file that
-/// was read last, and no call takes memory.
+/// What memory keeps of an image, and its journal. Of the files' bytes it holds only those in open records and those of the file that was
+/// read last. No call allocates memory.
 #[derive(Drop)]
 pub struct Store {
     memory: Memory,
@@ -69,7 +69,7 @@ impl Model for Store {
 }
 
 impl Store {
-    /// The store of these parts.
+    /// The store that consists of these parts.
     pub fn join(built: Built) -> Store
         requires { IsSound (record { metadata = built.metadata; journal = built.journal; is_broken = false }) }
         ensures { result ≡ record { metadata = built.metadata; journal = built.journal; is_broken = false } }
@@ -83,8 +83,8 @@ impl Store {
         Store { memory }
     }
 
-    /// Gives back its memory. A store has many parts, so that its end takes long to check: those who let one go make this call, and it
-    /// is checked once.
+    /// Frees its memory. A store has many parts, so dropping it takes long to check. Callers drop a store by this call, and it is checked
+    /// once.
     pub fn close(self) {}
 
     /// Makes a change, and commits it with all that was held back.
@@ -114,7 +114,7 @@ impl Store {
         self.commit(disk)
     }
 
-    /// Makes a change and holds it back: it is in memory, and its blocks are committed with those of later ones.
+    /// Makes a change and holds it back: it is in memory, and its blocks are committed with those of later changes.
     pub fn hold<D: Disk>(
         &mut self,
         disk: &mut D,
@@ -147,7 +147,7 @@ impl Store {
         }
     }
 
-    /// Commits all changes that are held back. Where there are none it makes no call of the disk.
+    /// Commits all changes that are held back. If there are none it makes no disk call.
     pub fn commit<D: Disk>(&mut self, disk: &mut D) -> Result<(), ChangeFault>
         requires usable { IsUsable self.old (D.meaning disk.old) }
         ensures commits { (base s : State) → StoreHolds self.old (D.meaning disk.old) base s
@@ -178,15 +178,15 @@ impl Store {
         &self.memory.metadata
     }
 
-    /// Whether a call of the disk failed. Then only what is on the disk counts.
+    /// Whether a disk call failed. If so, only what is on the disk counts.
     pub fn is_broken(&self) -> bool
         ensures { result ≡ self.now.is_broken }
     {
         self.memory.is_broken
     }
 
-    /// For each file slot the numbers of its file's description, and for each number how many files have it and which, with
-    /// a count of edits. Listings look at the numbers and at how many files have each.
+    /// For each file slot the numbers of its file's description; for each number which files have it and how many; and a count of edits.
+    /// Listings use the numbers and how many files have each.
     pub fn descriptions(&self) -> &Ext
         ensures { result.now ≡ self.now.metadata.ext }
     {
@@ -201,7 +201,7 @@ impl Store {
         self.memory.metadata.is_declared(word)
     }
 
-    /// The n-th block of a file's bytes. At its end the last block holds any bytes.
+    /// The n-th block of a file's bytes. After the end of the file the block may hold any bytes.
     pub fn content<D: Disk>(
         &self,
         disk: &mut D,
@@ -231,7 +231,7 @@ impl Store {
         read_block(&self.memory.journal, disk, laid, n, buf)
     }
 
-    /// Reads the index block of a file, where it has one, to be handed to `content_by`.
+    /// Reads the index block of a file, if it has one. Callers pass it to `content_by`.
     pub fn index<D: Disk>(&self, disk: &mut D, slot: u16, index: &mut [u8]) -> Result<(), Failed>
         requires some { IsSomeAnd (rec_at self.now.metadata.catalog slot) (λ (rec : FileRecord). 0 < rec.size) }
         requires whole { length index.old ≡ BLOCK_LEN }
@@ -254,7 +254,7 @@ impl Store {
         read_index_block(&self.memory.journal, disk, laid, index)
     }
 
-    /// The n-th block of a file's bytes, by the index block that `index` read. At its end the last block holds any bytes.
+    /// The n-th block of a file's bytes, by the index block that `index` read. After the end of the file the block may hold any bytes.
     pub fn content_by<D: Disk>(
         &self,
         disk: &mut D,
@@ -287,7 +287,7 @@ impl Store {
         read_block_by(&self.memory.journal, disk, laid, index, n, buf)
     }
 
-    /// The slot of the file of that name, where the file is in the extension of the place.
+    /// The slot of the file of that name, if the file is in the extension of the place.
     pub fn slot_here(&self, scratch: &mut Scratch, place: &Place, name: &Name) -> Option<u16>
         requires { HasRoom scratch.old self.now.metadata.limits }
         ensures room { HasRoom scratch.new self.now.metadata.limits }

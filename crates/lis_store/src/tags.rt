@@ -1,4 +1,4 @@
-//! The words that a file was given.
+//! The words that are assigned to a file.
 
 ghost use Rattle.std.specs.Prelude.{◌≡◌, IsSome, IsSomeAnd};
 ghost use Rattle.lis_catalog.specs.Catalog.{rec_at};
@@ -11,7 +11,7 @@ use arrayvec::ArrayVec;
 use lis_words::Word;
 
 impl Store {
-    /// The words, in byte order, that the file in a slot was given.
+    /// The words that are assigned to the file in a slot, in byte order.
     pub fn tags(&self, slot: u16) -> ArrayVec<Word, 16>
         requires { IsSome (rec_at self.now.metadata.catalog slot) }
         ensures { IsSomeAnd (rec_at self.now.metadata.catalog slot)

@@ -1,4 +1,4 @@
-//! Tests that come into descriptions when they are declared, and leave them when they go.
+//! Tests that are added to descriptions when they are declared, and removed with their declarations.
 
 ghost use Rattle.std.specs.Prelude.{◌≡◌, ℕ, ◌<◌, ◌≤◌, true, not, ◌==◌, length, filter, IsSome};
 ghost use Rattle.lis_dict.specs.Dict.{word_of};
@@ -17,8 +17,8 @@ use lis_limits::MAX_DESCRIPTION;
 use lis_taxonomy::Search;
 use lis_words::{Word, test_of};
 
-/// Declares a new word, with an axiom from it to the word of each of these numbers. A test comes into the descriptions of the
-/// files that meet it.
+/// Declares a new word, with an axiom from it to the word of each of these numbers. A test is added to the descriptions of the files that
+/// meet it.
 pub(crate) fn declare_tested(
     metadata: &mut Metadata,
     word: &Word,
@@ -39,7 +39,7 @@ pub(crate) fn declare_tested(
     rebuild_all(metadata, Rebuild::Meeting(test, number), search);
 }
 
-// The numbers but for one.
+// The numbers except one.
 fn numbers_without(numbers: &[u16], number: u16) -> ArrayVec<u16, MAX_DESCRIPTION>
     requires { length numbers.now ≤ MAX_DESCRIPTION }
     ensures { result.items ≡ filter (λ n. not (n == number)) numbers.now }
@@ -53,7 +53,7 @@ fn numbers_without(numbers: &[u16], number: u16) -> ArrayVec<u16, MAX_DESCRIPTIO
     rest
 }
 
-// Takes a number out of the description in a slot.
+// Removes a number from the description in a slot.
 fn describe_without(metadata: &mut Metadata, number: u16, slot: u16)
     requires sound { AreSound metadata.old }
     requires number { IsSome (word_of metadata.old.dict number) }
@@ -71,7 +71,7 @@ fn describe_without(metadata: &mut Metadata, number: u16, slot: u16)
     metadata.describe(slot, new.as_slice());
 }
 
-// Takes a number out of all descriptions.
+// Removes a number from all descriptions.
 fn describe_all_without(metadata: &mut Metadata, number: u16)
     requires number { IsSome (word_of metadata.old.dict number) }
     requires free { FreeSlotsAreEmpty metadata.old }
@@ -85,7 +85,7 @@ fn describe_all_without(metadata: &mut Metadata, number: u16)
     }
 }
 
-/// Takes the declaration of a word back, and its number out of all descriptions.
+/// Removes the declaration of a word, and its number from all descriptions.
 pub(crate) fn undeclare_unmet(metadata: &mut Metadata, number: u16)
     requires form { AreInForm metadata.old }
     requires number { IsSome (word_of metadata.old.dict number) }

@@ -1,4 +1,4 @@
--- A set of words that axioms widen one after another comes to all that the words entail.
+-- A set of words that axioms widen one after another becomes all that the words entail.
 use Rattle.std.proofs.Common.{◌≡◌, ◌⊎◌, ℕ, zero, suc, ◌<◌, ◌≤◌, Bool, true, false, not, cond, ◌&&◌, Some, None, List, [], ◌∷◌, length, filter, refl, ap, sym, subst, ◌∙◌, inl, inr, arith}
 use Rattle.std.specs.List.{find, flat_map}
 use Rattle.std.specs.List.Sorted.{IsStrictlySortedBy}
@@ -64,7 +64,7 @@ shut true true h e = refl
 shut true false h e = absurd cc
 shut false b h e = absurd cc
 
--- ---- an axiom more
+-- ---- one more axiom
 module _ (declared : List (List ℕ)) (axioms : Pairs) (words all : List (List ℕ)) where
   pub widened : Closing declared axioms words all → (pair : List ℕ × List ℕ) → find (is_open all) axioms ≡ Some pair
       → Closing declared axioms words (with_words all (with_links declared pair.1))
@@ -91,7 +91,7 @@ module _ (declared : List (List ℕ)) (axioms : Pairs) (words all : List (List �
       leading p q (inl old) own = with_words_old all (with_links declared pair.1) q (c.owned p q old own)
       leading p q (inr new) own = with_words_new all (with_links declared pair.1) q (linked_on declared pair.1 p q new own)
 
-  -- where no axiom leads on, the set is whole
+  -- if no axiom leads further, the set is complete
   pub closed : Closing declared axioms words all → find (is_open all) axioms ≡ None → all ≡ all_up declared axioms words
   closed c h = same_words all (all_up declared axioms words) c.sorted (sorted_all_up declared axioms words) c.within back
     where
@@ -164,7 +164,7 @@ shrinks declared axioms all pair h =
     at : Among axioms pair × (is_open all pair ≡ true)
     at = find_among (is_open all) axioms pair h
 
--- ---- one word alone
+-- ---- a single word
 pub up_alone : (declared : List (List ℕ)) (axioms : Pairs) (p : List ℕ) → all_up declared axioms (p ∷ []) ≡ up declared axioms p
 up_alone declared axioms p =
     same_words (all_up declared axioms (p ∷ [])) (up declared axioms p) (sorted_all_up declared axioms (p ∷ [])) (sorted_up declared axioms p)
@@ -174,7 +174,7 @@ up_alone declared axioms p =
     only w q (inl same) h = subst (λ k. Among (up declared axioms k) q) (sym same) h
     only w q (inr none) h = absurd none
 
--- ---- a step of the loop, told of what it sees
+-- ---- a step of the loop, by what it reads
 module _ (declared : List (List ℕ)) (axioms : Pairs) (words all seen more : List (List ℕ)) (pair sides : List ℕ × List ℕ)
     (same : seen ≡ all) (first : find (is_open seen) axioms ≡ Some pair) (at : sides ≡ pair) (is : more ≡ with_words all (with_links declared sides.1)) where
   first_is : find (is_open all) axioms ≡ Some sides

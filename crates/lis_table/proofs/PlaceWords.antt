@@ -43,7 +43,7 @@ and_false : (b : Bool) → (b && false) ≡ false
 and_false true = refl
 and_false false = refl
 
--- a node behind that has no words and is a conjunct changes nothing; any other node spoils all
+-- a further node that is a conjunct without words changes nothing; any other node makes it no place of words
 with_and : (xs : List Node) → words_if xs ≡ words_if (xs ++ And ∷ [])
 with_and xs =
     sym (ap (λ b. cond b (Some (flat_map node_words (xs ++ And ∷ []))) None) (list_all-append is_conjunct xs (And ∷ []) ∙ and_true (list_all is_conjunct xs))

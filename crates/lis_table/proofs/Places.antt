@@ -1,4 +1,4 @@
--- Putting a key at its place is the insertion into the set.
+-- Putting a key at its index is the insertion into the set.
 use Rattle.std.proofs.Common.{◌≡◌, ℕ, ◌+◌, ◌≤◌, true, false, cond, List, [], ◌∷◌, length, drop, refl, ap, sym, ◌∙◌, suc, arith}
 use Rattle.std.specs.declared.cmp.Ordering.{Ordering}
 use Rattle.std.specs.declared.cmp.Ordering.TheVariants.{Less, Equal, Greater}
@@ -40,7 +40,7 @@ module _ {K : Type 0} (cmp : K → K → Ordering) (k : K) where
           let h' = rw (one_more (place_of ks)) at h in
           rw (one_more (place_of ks)) (ap (λ xs. x ∷ xs) (more h'))
 
-  -- the same, where the place was counted on one slice and the list cut on another
+  -- the same, if the index was counted on one slice and the list is cut on another
   pub at_place : (ks counted cut behind : List K) (n : ℕ) → counted ≡ ks → n ≡ place_of counted → cut ≡ ks → behind ≡ drop n cut
       → first_is cmp k (drop (place_of ks) ks) ≡ first_is cmp k behind
   at_place ks counted cut behind n same at whole is =

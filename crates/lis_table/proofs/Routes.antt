@@ -8,7 +8,7 @@ use Rattle.lis_model.specs.Listing.{holds, holds_all, extension, is_local}
 use Rattle.lis_model.specs.Route.{word_then, first_increment, route_within, route}
 use Rattle.lis_table.specs.Routes.{first_of, route_from}
 
--- ---- the files of a place with one step more
+-- ---- the files of a place with one more step
 and_true : (a b : Bool) → (a && (b && true)) ≡ (a && b)
 and_true true true = refl
 and_true true false = refl

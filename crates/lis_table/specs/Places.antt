@@ -1,4 +1,4 @@
--- Where a key stands in a sorted list.
+-- The index of a key in a sorted list.
 use Rattle.std.specs.Prelude.{Bool, false, List, [], ◌∷◌}
 use Rattle.std.specs.declared.cmp.Ordering.{Ordering}
 use Rattle.std.specs.Ordering.{is_eq}

@@ -1,4 +1,4 @@
--- Tables put together of declared words, axioms and the entries of files.
+-- Tables from declared words, axioms and the entries of files.
 use Rattle.std.specs.Prelude.{ℕ, List, ◌++◌, map}
 use Rattle.std.specs.List.{flat_map}
 use Rattle.lis_model.specs.declared.limits.Limits.{Limits}

@@ -38,7 +38,7 @@ impl Axiom {
     }
 }
 
-/// Whether the words have the left side, and lack the right one.
+/// Whether the words have the left side, and not the right one.
 fn is_open(words: &[Word], pair: &Axiom) -> bool
     ensures { result ≡ is_open words.now pair.now }
 {
@@ -48,7 +48,7 @@ fn is_open(words: &[Word], pair: &Axiom) -> bool
     !has_word(words, &pair.right)
 }
 
-/// The first axiom of which the words have the left side, and lack the right one.
+/// The first axiom whose left side the words have, and whose right side they do not have.
 fn first_open<'a>(words: &[Word], axioms: &'a [Axiom]) -> Option<&'a Axiom>
     ensures { MatchOption result (find (is_open words.now) axioms.now ≡ None) (λ pair. find (is_open words.now) axioms.now ≡ Some pair.now) }
 {

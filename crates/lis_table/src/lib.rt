@@ -1,4 +1,4 @@
-//! What truth and listings look at: sets of words, what they entail, descriptions, tables, and the words of places.
+//! What truth and listings use: sets of words, what they entail, descriptions, tables, and the words of places.
 #![tactic(auto)]
 
 pub mod closure;

@@ -1,4 +1,4 @@
-//! What a word leads to by itself: its head, and the declared tests that are weaker.
+//! A word's own links: to its head, and to the declared tests that are weaker.
 
 ghost use Rattle.std.specs.Prelude.{◌≡◌, Some, filter, IfOk, OnOk};
 ghost use Rattle.lis_words.specs.Words.{test_of};
@@ -70,7 +70,7 @@ pub fn insert_head(words: &mut Vec<Word>, word: &Word) -> Result<(), AllocError>
     Ok(())
 }
 
-/// Puts the word and what it leads to by itself into the set.
+/// Puts the word and what its own links lead to into the set.
 pub fn insert_linked(
     words: &mut Vec<Word>,
     declared: &[Word],
@@ -84,7 +84,7 @@ pub fn insert_linked(
     Ok(())
 }
 
-/// The set of the words and what each leads to by itself.
+/// The set of the words and what the own links of each lead to.
 pub fn linked(alloc: Global, declared: &[Word], words: &[Word]) -> Result<Vec<Word>, AllocError>
     ensures { IfOk result (λ all. all.items ≡ all_linked declared.now words.now) }
 {
@@ -95,7 +95,7 @@ pub fn linked(alloc: Global, declared: &[Word], words: &[Word]) -> Result<Vec<Wo
     Ok(all)
 }
 
-/// The declared tests that hold of so many bytes, in their order.
+/// The declared tests that this many bytes meet, in their order.
 pub fn met_tests(alloc: Global, declared: &[Word], size: u64) -> Result<Vec<Word>, AllocError>
     ensures { IfOk result (λ words. words.items ≡ met_tests declared.now size) }
 {

@@ -34,7 +34,7 @@ pub fn has_entry(files: &[Entry], name: &Name) -> bool
     files.iter().any(|file| file.name == *name)
 }
 
-/// Whether some of the files has the word and some lacks it.
+/// Whether some file has the word and some file lacks it.
 pub fn is_candidate(files: &[Entry], word: &Word) -> bool
     ensures { result ≡ is_candidate files.now word.now }
 {
@@ -95,7 +95,7 @@ pub fn is_local(files: &[Entry], file: &Entry) -> bool
     !has_candidate(files, &file.words)
 }
 
-/// Puts a line of a letter and a text behind the reply.
+/// Appends a line of a letter and a text to the reply.
 pub fn push_line(reply: &mut Vec<u8>, letter: u8, text: &[u8]) -> Result<(), AllocError>
     ensures { OnOk result (reply.new.items ≡ reply.old.items ++ body_line letter text.now) }
 {
@@ -106,7 +106,7 @@ pub fn push_line(reply: &mut Vec<u8>, letter: u8, text: &[u8]) -> Result<(), All
     Ok(())
 }
 
-/// Puts a line of the letter for each of the words behind the reply.
+/// Appends to the reply a line with the letter for each of the words.
 pub fn push_words(reply: &mut Vec<u8>, letter: u8, words: &[Word]) -> Result<(), AllocError>
     ensures { OnOk result (reply.new.items ≡ reply.old.items ++ flat_map (body_line letter) words.now) }
 {
@@ -116,7 +116,7 @@ pub fn push_words(reply: &mut Vec<u8>, letter: u8, words: &[Word]) -> Result<(),
     Ok(())
 }
 
-/// Puts a line for each increment behind the reply.
+/// Appends a line for each increment to the reply.
 pub fn push_increments(
     reply: &mut Vec<u8>,
     table: &Table,
@@ -133,7 +133,7 @@ pub fn push_increments(
     Ok(())
 }
 
-/// Puts a line for each local file behind the reply.
+/// Appends a line for each local file to the reply.
 pub fn push_locals(reply: &mut Vec<u8>, files: &[Entry]) -> Result<(), AllocError>
     ensures { OnOk result (reply.new.items ≡ reply.old.items
         ++ flat_map (λ (file : Entry). body_line file_letter file.name) (filter (is_local files.now) files.now)) }

@@ -1,4 +1,4 @@
-//! What leads from a place to another.
+//! What leads from one place to another.
 
 ghost use Rattle.std.specs.Prelude.{◌≡◌, List, ◌++◌, IfOk, OnOk};
 ghost use Rattle.std.specs.List.{list_all, flat_map};
@@ -22,7 +22,7 @@ pub fn is_root(place: &Place) -> bool
     place.is_empty()
 }
 
-/// Whether the word of the node is known, where it has one.
+/// Whether the word of the node, if it has one, is known.
 pub fn is_known(known: &[Word], node: &Node) -> bool
     ensures { result ≡ list_all (has_word known.now) (node_words node.now) }
 {
@@ -39,7 +39,7 @@ pub fn are_known(known: &[Word], nodes: &[Node]) -> bool
     nodes.iter().all(|node| is_known(known, node))
 }
 
-/// Whether each word that the text names is known, where the text leads from some place to another. The text `..` names none.
+/// Whether each word in the text is known, if the text leads from some place to another. The text `..` has no words.
 pub fn knows_text(known: &[Word], text: &[u8]) -> bool
     ensures { (place new : List Formula) → resolved place text.now ≡ NewPlace new → result ≡ list_all (has_word known.now) (text_words text.now) }
 {
@@ -68,7 +68,7 @@ fn named_words(alloc: Global, nodes: &[Node]) -> Result<Vec<Word>, AllocError>
     Ok(words)
 }
 
-/// The words that the text names, where it leads from some place to another. The text `..` names none.
+/// The words in the text, if it leads from some place to another. The text `..` has no words.
 pub fn text_words(alloc: Global, text: &[u8]) -> Result<Vec<Word>, AllocError>
     ensures { IfOk result (λ words. (place new : List Formula) → resolved place text.now ≡ NewPlace new → words.items ≡ text_words text.now) }
 {

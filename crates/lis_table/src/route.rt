@@ -12,7 +12,7 @@ use crate::words::has_word;
 use lis_words::{Word, test_of};
 use std::alloc::{AllocError, Global};
 
-/// Whether the step that the word stands for holds of the file.
+/// Whether the step of the word holds of the file.
 fn holds(word: &Word, file: &Entry) -> bool
     ensures { result ≡ holds (step_of word.now) file.now }
 {
@@ -23,7 +23,7 @@ fn holds(word: &Word, file: &Entry) -> bool
     }
 }
 
-/// Keeps the files of which the word's step holds.
+/// Keeps the files of which the step of the word holds.
 fn narrow(files: &mut Vec<Entry>, word: &Word)
     ensures { files.new.items ≡ filter (holds (step_of word.now)) files.old.items }
 {
@@ -42,7 +42,7 @@ fn first_increment(table: &Table, files: &[Entry], file: &Entry) -> Option<Word>
     None
 }
 
-/// The increments that lead to a file from where these files are.
+/// The increments that lead to a file, from a place with these files.
 pub fn route(
     alloc: Global,
     table: &Table,

@@ -1,4 +1,4 @@
-//! The words of a place, and those that a file in it is given.
+//! The words of a place, and those that are assigned to a file in it.
 
 ghost use Rattle.std.specs.Prelude.{◌≡◌, Some, None, not, filter, IfOk, OnOk, MatchOption};
 ghost use Rattle.std.specs.List.{list_all, flat_map};
@@ -23,7 +23,7 @@ pub fn are_conjuncts(nodes: &[Node]) -> bool
         .all(|node| matches!(node, Node::Word(_) | Node::And))
 }
 
-/// Puts the word of the node into the set, where it has one.
+/// Puts the word of the node, if it has one, into the set.
 pub fn insert_node(words: &mut Vec<Word>, node: &Node) -> Result<(), AllocError>
     ensures { OnOk result (words.new.items ≡ with_words words.old.items (node_words node.now)) }
 {
@@ -44,7 +44,7 @@ pub fn words_of(alloc: Global, nodes: &[Node]) -> Result<Vec<Word>, AllocError>
     Ok(words)
 }
 
-/// The set of the words of a place whose formula has only conjunctions and words. None comes exactly at other places.
+/// The set of the words of a place whose formula has only conjunctions and words. The result is `None` exactly at other places.
 pub fn place_words(alloc: Global, place: &Place) -> Result<Option<Vec<Word>>, AllocError>
     ensures { IfOk result (λ found. MatchOption found (place_words place.now ≡ None) (λ words. place_words place.now ≡ Some words.items)) }
 {
@@ -79,7 +79,7 @@ pub fn tags_among(alloc: Global, words: &[Word]) -> Result<Vec<Word>, AllocError
     Ok(tags)
 }
 
-/// The words of a place; none where it has none.
+/// The words of a place; none if it is no place of words.
 pub fn words_at(alloc: Global, place: &Place) -> Result<Vec<Word>, AllocError>
     ensures { IfOk result (λ words. words.items ≡ words_at place.now) }
 {
@@ -89,7 +89,7 @@ pub fn words_at(alloc: Global, place: &Place) -> Result<Vec<Word>, AllocError>
     }
 }
 
-/// The tags of a place; none where it has none.
+/// The tags of a place; none if it is no place of words.
 pub fn tags_at(alloc: Global, place: &Place) -> Result<Vec<Word>, AllocError>
     ensures { IfOk result (λ tags. tags.items ≡ tags_at place.now) }
 {

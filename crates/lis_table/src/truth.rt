@@ -16,7 +16,7 @@ use lis_words::Word;
 use std::alloc::{AllocError, Global};
 use std::marker::Model;
 
-/// What formulas are true of.
+/// What formulas hold of.
 pub trait Described {
     /// The entry of a file with these words and of this size.
     ghost entry: { Self → Entry };
@@ -78,7 +78,7 @@ impl Values {
         self.held.push(value);
     }
 
-    // Takes the last value; false where there is none.
+    // Removes the last value and returns it; false if there is none.
     fn pop(&mut self) -> bool
         ensures last { result ≡ last_value self.old }
         ensures rest { self.new ≡ below_last self.old }
@@ -92,7 +92,7 @@ impl Values {
         are_all_true(self.held.as_slice())
     }
 
-    // The truth of one more node.
+    // Puts the truth of one more node.
     fn put<D: Described>(&mut self, node: &Node, described: &D)
         requires { length self.old < MAX_NODES }
         ensures value { self.new ≡ with_value (D.entry described.now) self.old node.now }
@@ -131,7 +131,7 @@ fn values_of<D: Described>(nodes: &[Node], described: &D) -> Values
     values
 }
 
-/// Whether all steps of the place hold of what is described.
+/// Whether all steps of the place hold of it.
 pub fn holds_all<D: Described>(place: &Place, described: &D) -> bool
     ensures { result ≡ holds_all place.now (D.entry described.now) }
 {

@@ -18,7 +18,7 @@ pub fn has_word(words: &[Word], word: &Word) -> bool
     words.iter().any(|held| held == word)
 }
 
-/// How many words of a set stand before the word, or would.
+/// How many words of a set are before the word, or would be.
 pub fn word_place(words: &[Word], word: &Word) -> usize
     ensures { result ≡ prefix_len (λ held. is_gt (word_cmp word.now held)) words.now }
 {
@@ -38,7 +38,7 @@ pub fn begins_with_word(words: &[Word], word: &Word) -> bool
     }
 }
 
-/// Puts the word at its place in the order, unless it is there.
+/// Inserts the word at its index in the order, unless it is there.
 pub fn insert_word(words: &mut Vec<Word>, word: &Word) -> Result<(), AllocError>
     ensures ok { OnOk result (words.new.items ≡ with_word words.old.items word.now) }
     ensures err { OnErr result (words.new.items ≡ words.old.items) }

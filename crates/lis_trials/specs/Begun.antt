@@ -1,4 +1,4 @@
--- What the headline asks for at entry, of a station and a source in memory.
+-- What the headline requires at the start, of a station and a source in memory.
 use Rattle.std.specs.Prelude.{◌≡◌, ℕ, nat_lt, List, [], drop, Option, Some}
 use Rattle.lis_ports.specs.declared.source.MemSource.{MemSource}
 use Rattle.lis_memdisk.specs.declared.mem_station.MemStation.{MemStation}
@@ -11,8 +11,8 @@ use Rattle.lis_shell.specs.Runs.{AtEntry}
 abbrev pub left_of : MemSource → Option (List ℕ)
 left_of source = Some (drop source.place source.bytes.items)
 
--- A run over the station begins as the headline asks, with any source in memory: the image stands for the empty state, a crash then leaves the
--- bytes as they read, what was shown is told, and where there is room for a record the moments are.
+-- A run over the station begins as the headline requires, with any source in memory. The image represents the empty state, and a crash then
+-- leaves the bytes as they read. What was shown is known, and, if there is room for a record, so are the moments.
 pub record IsBegun (limits : Limits) (room : ℕ) (station : MemStation) : Type 0 where
   pub entry : (source : MemSource) (bytes : List ℕ) → left_of source ≡ Some bytes
       → AtEntry (meaning_of station) (left_of source) (empty_state limits) bytes

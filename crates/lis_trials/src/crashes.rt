@@ -1,4 +1,4 @@
-//! Scripts in one session over an image, crashed after each of its calls of the disk and opened again.
+//! Scripts in one session over an image, which crashes after each of its disk calls and is opened again.
 
 ghost use Rattle.std.specs.Prelude.{IfOk, IsTrue};
 ghost use Rattle.lis_memdisk.specs.MemStation.{meaning_of};
@@ -11,22 +11,22 @@ use lis_shell::status::Status;
 use std::alloc::Global;
 use std::test::Fail;
 
-/// Room for the record of a session of some commands.
+/// Room for the record of a session of a few commands.
 const ROOM: u64 = 1 << 22;
 
 /// The same for an opening.
 const OPENING_ROOM: u64 = 1 << 20;
 
-/// At how many of its calls of the disk an opening is stopped, at most.
+/// The most disk calls of an opening at which it is stopped.
 const OPENING_CALLS: u64 = 40;
 
-/// What is left of bytes that were not synced, where an opening is stopped too.
+/// A pick of what remains of bytes that were not synced.
 const PICK: u8 = 165;
 
 /// How many bytes each reply of a script has: `ok` and a line feed.
 const REPLY_LEN: u64 = 3;
 
-// What a session that looks shows of an image.
+// What a session that only looks shows of an image.
 fn looked_at(alloc: Global, script: &Script, image: &[u8]) -> Result<String, Fail> {
     let (status, shown) = session(alloc, image, script.look)?;
     if status != Status::DONE {
@@ -45,7 +45,7 @@ fn crashed(alloc: Global, station: &MemStation, call: u64, pick: u8) -> Result<V
     Ok(station.crash(alloc, call, pick)?)
 }
 
-// What such a session shows of it.
+// What such a session shows of that image.
 fn left_by(
     alloc: Global,
     script: &Script,
@@ -58,7 +58,7 @@ fn left_by(
     looked_at(alloc, script, &crashed(alloc, station, call, pick)?)
 }
 
-// How many bytes had been shown when the call answered.
+// How many bytes had been shown when the call returned.
 fn shown_at(station: &MemStation, call: u64) -> u64
     requires { IsTrue (meaning_of station.now).is_recorded }
 {
@@ -68,17 +68,17 @@ fn shown_at(station: &MemStation, call: u64) -> u64
     station.shown_at(call)
 }
 
-// Whether this is the state behind so many commands.
+// Whether this is the state after this many commands.
 fn is_behind(script: &Script, left: &str, commands: u64) -> bool {
     script.state(commands as usize) == Some(left)
 }
 
-// Whether this is the state behind all of them.
+// Whether this is the state after all of them.
 fn is_last(script: &Script, left: &str) -> bool {
     script.states.split_terminator('\n').last() == Some(left)
 }
 
-// It is the state behind the commands whose replies were shown whole, or behind one more; and that one where its reply was begun.
+// Whether it is the state after the commands whose replies were shown whole, or after one more, and the latter if that reply was begun.
 fn is_allowed(script: &Script, left: &str, shown: u64) -> bool {
     let whole = shown / REPLY_LEN;
     let is_begun = shown % REPLY_LEN > 0;
@@ -86,7 +86,7 @@ fn is_allowed(script: &Script, left: &str, shown: u64) -> bool {
         || (!is_begun && is_behind(script, left, whole))
 }
 
-// The script over an empty image that these words make.
+// The script over an empty image made by these words.
 fn scripted(alloc: Global, words: &[&str], script: &Script) -> Result<MemStation, Fail>
     ensures { IfOk result (λ station. IsTrue (meaning_of station).is_recorded) }
 {
@@ -97,8 +97,8 @@ fn scripted(alloc: Global, words: &[&str], script: &Script) -> Result<MemStation
     Ok(station)
 }
 
-// What the first crash leaves that leaves a state that it must not, by a pick of the bytes that were not synced. A crash may come
-// just after a call, or just before the next one, when more replies were shown.
+// What the first crash leaves that leaves a wrong state, by a pick of the bytes that were not synced. A crash may come just after a call,
+// or just before the next one, when more replies were shown.
 fn wrong_state(
     alloc: Global,
     script: &Script,
@@ -117,7 +117,7 @@ fn wrong_state(
         }
     }
 
-    // Behind the last call nothing is lost.
+    // After the last call nothing is lost.
     let left = left_by(alloc, script, station, last, pick)?;
     Ok(if is_last(script, left.as_str()) {
         None
@@ -126,7 +126,7 @@ fn wrong_state(
     })
 }
 
-// The same of the first of these picks that leaves such a state.
+// The same for the first of these picks that leaves such a state.
 fn wrong_of(
     alloc: Global,
     words: &[&str],
@@ -143,7 +143,7 @@ fn wrong_of(
     Ok(None)
 }
 
-// The script over such an image, loaded out of pieces of so many bytes.
+// The script over such an image, loaded from an input in pieces of this many bytes.
 fn loaded(alloc: Global, words: &[&str], script: &Script, step: usize) -> Result<MemStation, Fail>
     ensures { IfOk result (λ station. IsTrue (meaning_of station).is_recorded) }
 {
@@ -156,7 +156,7 @@ fn loaded(alloc: Global, words: &[&str], script: &Script, step: usize) -> Result
     Ok(station)
 }
 
-// It is the state behind some commands, those among them whose replies were shown whole or begun.
+// Whether it is the state after some commands, among them all whose replies were shown whole or begun.
 fn is_kept(script: &Script, left: &str, shown: u64) -> bool {
     let begun = shown.div_ceil(REPLY_LEN) as usize;
     for state in script.states.split_terminator('\n').skip(begun) {
@@ -191,7 +191,7 @@ fn wrong_load(
     })
 }
 
-// The same of the first of the scripts, out of such pieces.
+// The same for the first of the scripts, loaded in such pieces.
 fn wrong_load_of_any(alloc: Global, words: &[&str], step: usize) -> Result<Option<String>, Fail> {
     for script in [&KINDS, &ONE_FILE, &TWO_FILES] {
         let station = loaded(alloc, words, script, step)?;
@@ -203,7 +203,8 @@ fn wrong_load_of_any(alloc: Global, words: &[&str], step: usize) -> Result<Optio
     Ok(None)
 }
 
-// What a session that looks shows of an image whose opening stopped at the call behind the fuse. None where it was not stopped.
+// What a session that only looks shows of an image whose opening stopped at the call after the fuse. The result is `None` if it was not
+// stopped.
 fn left_by_opening(
     alloc: Global,
     script: &Script,
@@ -219,7 +220,7 @@ fn left_by_opening(
     Ok(Some(left))
 }
 
-// Whether the opening that stops at the call behind the fuse leaves another state. None where it was not stopped.
+// Whether the opening that stops at the call after the fuse leaves another state. The result is `None` if it was not stopped.
 fn leaves_another(
     alloc: Global,
     script: &Script,
@@ -246,7 +247,7 @@ fn wrong_fuse(alloc: Global, script: &Script, image: &[u8]) -> Result<Option<u64
     Ok(None)
 }
 
-// The same of the first of the scripts.
+// The same for the first of the scripts.
 fn wrong_of_any(alloc: Global, words: &[&str], picks: [u8; 2]) -> Result<Option<String>, Fail> {
     for script in [&KINDS, &ONE_FILE, &TWO_FILES] {
         let wrong = wrong_of(alloc, words, script, picks)?;
@@ -302,7 +303,7 @@ fn a_crash_in_a_load_leaves_the_state_behind_some_commands(rt: HostRuntime) -> R
     Ok(())
 }
 
-// Byte by byte no item lies whole ahead, so that none is held back.
+// If the input comes byte by byte, no item is complete ahead, so no change is held back.
 #[test]
 fn a_load_of_single_bytes_commits_each_command(rt: HostRuntime) -> Result<(), Fail> {
     for script in [&KINDS, &ONE_FILE, &TWO_FILES] {
@@ -313,7 +314,7 @@ fn a_load_of_single_bytes_commits_each_command(rt: HostRuntime) -> Result<(), Fa
     Ok(())
 }
 
-// Behind each call of the fourth command, which puts a content.
+// After each call of the fourth command, which puts a content.
 #[test]
 fn an_opening_that_is_stopped_leaves_the_state_that_it_found(rt: HostRuntime) -> Result<(), Fail> {
     let alloc = rt.alloc();

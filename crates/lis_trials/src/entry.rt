@@ -1,4 +1,4 @@
-//! What a session over an image begins with: so no premise of the headline is empty.
+//! How a session over an image begins, so that no premise of the headline is empty.
 
 ghost use Rattle.std.specs.Prelude.{◌≡◌, ◌<◌, IsTrue, IfOk, IfSome, Some};
 ghost use Rattle.lis_model.specs.Ranges.{are_in_range};
@@ -13,8 +13,9 @@ use std::alloc::{AllocError, Global};
 /// How many bytes a block of an image has.
 const BLOCK_LEN: usize = 4_096;
 
-/// A station in memory with an image of the empty state of these limits, that meets what the headline asks for at entry. With room it keeps
-/// a record, so that the headline says something of each moment. None where the room does not do for making the image.
+/// A station in memory with an image of the empty state of these limits, which meets the premises of the headline at the start. If `room`
+/// is not 0 it keeps a record, so that the headline says something of each moment. The result is `None` if the room is too small for making
+/// the image.
 pub fn empty_image(
     alloc: Global,
     limits: &Limits,
@@ -31,7 +32,7 @@ pub fn empty_image(
     }
 }
 
-/// A source in memory of these bytes, that gives at most `step` in one call.
+/// A source in memory of these bytes, which gives at most `step` in one call.
 pub fn source_of(bytes: Vec<u8>, step: usize) -> MemSource
     requires { 0 < step }
     ensures { left_of result ≡ Some bytes.items }
@@ -51,7 +52,7 @@ mod tests {
     use super::*;
     use std::test::Fail;
 
-    // No clause says that there is room: a body that gives up would be proved.
+    // No clause says that there is room: a body that always returns `None` would be proved.
     #[test]
     fn an_image_is_made_and_recorded_where_there_is_room(rt: HostRuntime) -> Result<(), Fail> {
         let limits = Limits {

@@ -1,4 +1,4 @@
-//! The commands on one file over an image, with one call that fails: of the disk, of the station that shows, or of the source.
+//! The commands on one file over an image, with one failing call: of the disk, of the station that shows, or of the source.
 
 use crate::images::{MAKES, bytes_of, made, opening_calls, session};
 use crate::tests::tables::{FAILING_PLACES, ONE_FILE};
@@ -11,14 +11,14 @@ use std::test::Fail;
 /// What the script shows.
 const SHOWN: &str = "ok;ok;ok;ok;ok;ok;ok;ok;";
 
-/// More calls of the disk than the script makes.
+/// More disk calls than the script makes.
 const MANY_CALLS: u64 = 200;
 
 /// How many bytes each reply of the script has: `ok` and a line feed.
 const REPLY_LEN: usize = 3;
 
-/// How a run of the script ended, what it showed, how many calls of the disk it made, and what a session that looks shows of the image
-/// that it left.
+/// How a run of the script ended, what it showed, how many disk calls it made, and what a session that only looks shows of the image that
+/// it left.
 #[derive(Drop)]
 struct Ending {
     status: Status,
@@ -27,7 +27,7 @@ struct Ending {
     left: String,
 }
 
-// The script over a station that lets a call fail, and a look over a fresh one with the bytes that the first then reads.
+// The script over a station on which a call fails, and then a look over a new station with the bytes that the first one reads.
 fn ending_of(alloc: Global, station: &mut MemStation, outside: &Outside) -> Result<Ending, Fail> {
     let (status, _) = call(alloc, &["run", "i"], ONE_FILE.row, outside, station)?;
     let shown = row_of(alloc, station.shown())?;
@@ -46,24 +46,24 @@ fn ending_of(alloc: Global, station: &mut MemStation, outside: &Outside) -> Resu
     })
 }
 
-// Whether these are so many first bytes of what the script shows.
+// Whether these are the first `len` bytes of what the script shows.
 fn is_front(shown: &str, len: usize) -> bool {
     shown.len() == len && SHOWN.starts_with(shown)
 }
 
-// Whether this is the state behind so many commands.
+// Whether this is the state after this many commands.
 fn is_behind(left: &str, commands: usize) -> bool {
     ONE_FILE.state(commands) == Some(left)
 }
 
-// The replies were shown whole, and the image has the state behind their commands or behind one more.
+// Whether whole replies were shown, and the image has the state after their commands or after one more.
 fn is_allowed(ended: &Ending) -> bool {
     let replies = ended.shown.len() / REPLY_LEN;
     is_front(ended.shown.as_str(), replies * REPLY_LEN)
         && (is_behind(ended.left.as_str(), replies) || is_behind(ended.left.as_str(), replies + 1))
 }
 
-// Nothing was shown, and the image has the state of before.
+// Whether nothing was shown, and the image has the state from before.
 fn is_unchanged(ended: &Ending) -> bool {
     ended.shown.is_empty() && is_behind(ended.left.as_str(), 0)
 }
@@ -99,7 +99,7 @@ fn a_failing_call_of_the_disk_leaves_the_state_that_was_shown_or_the_next_one(
     Err("the script makes more calls".into())
 }
 
-// The script at one byte a call, where the show behind so many bytes fails.
+// The script at one byte a call, if the show after this many bytes fails.
 fn with_failing_show(alloc: Global, image: &[u8], before: usize) -> Result<Ending, Fail> {
     let mut station = MemStation::new(alloc, image, 0)?;
     station.step = 1;
@@ -107,7 +107,7 @@ fn with_failing_show(alloc: Global, image: &[u8], before: usize) -> Result<Endin
     ending_of(alloc, &mut station, &SOUND)
 }
 
-// At one byte a call it is known what was shown. The command whose reply is not shown whole was carried out.
+// At one byte a call it is known what was shown. The command whose reply is not shown whole was run.
 #[test]
 fn a_failing_show_leaves_the_state_of_the_reply_that_it_cuts_off(
     rt: HostRuntime,
@@ -126,7 +126,7 @@ fn a_failing_show_leaves_the_state_of_the_reply_that_it_cuts_off(
     Ok(())
 }
 
-// The script out of a source that fails at this place.
+// The script from a source that fails at this offset.
 fn with_failing_source(alloc: Global, image: &[u8], place: usize) -> Result<Ending, Fail> {
     let mut station = MemStation::new(alloc, image, 0)?;
     let outside = Outside {

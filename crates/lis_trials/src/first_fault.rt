@@ -1,4 +1,4 @@
-//! The first call that fails is the last one, of whichever object, in every word of the program.
+//! The first failing call is the last one, on any object, in every word of the program.
 
 use crate::images::{fresh, used};
 use crate::tests::{Outside, SOUND, run_program, source};
@@ -14,13 +14,13 @@ use log::{Kind, Log, LoggedSource, LoggedStation};
 /// More calls of a kind than any of the words makes.
 const MANY_CALLS: u64 = 1_000;
 
-/// The source and the station in memory give and take so few bytes a call that there are many calls.
+/// The source gives, and the station takes, so few bytes a call that there are many calls.
 const OUTSIDE: Outside = Outside { step: 7, ..SOUND };
 
 const SHOW_STEP: usize = 7;
 
-/// A row of the table: words of the program, a session that makes the image with which they begin, the input, and the kinds of calls that they
-/// make.
+/// A row of the table: words of the program, a session that makes the image with which they begin, the input, and the kinds of calls that
+/// they make.
 #[derive(Clone, Copy)]
 struct Case<'a> {
     words: &'a str,
@@ -42,8 +42,8 @@ fn case_of(line: &str) -> Result<Case<'_>, Fail> {
     }
 }
 
-/// The session leaves open records, so that the opening brings them home. For `grow` there is room for the words of the first lines alone: no
-/// more files are made.
+/// The session leaves open records, so the opening writes them to their homes. For `grow` there is room only for the words of the first
+/// lines: no more files are made.
 fn cases() -> &'static str {
     "\
 try|64|64|8 =>  => mkdir music;create a music;add m 5;hello;frob;ls;cat m;cd music;pwd;props a;way a;stat;rm a;ls => take,show
@@ -60,7 +60,7 @@ grow|i|7 => mkdir k:;create a k:10 k:11 k:12 k:13 k:14 k:15 k:16 k:17 k:18 k:19 
 "
 }
 
-/// How words ended of whose calls one was to fail: how many calls there were of both objects, and the number of the one that failed.
+/// How words ended one of whose calls was to fail: how many calls there were on both objects, and the number of the failed one.
 #[derive(Clone, Copy)]
 struct Ended {
     status: Status,
@@ -68,7 +68,7 @@ struct Ended {
     failed: u64,
 }
 
-// What the words do where the call fails that the log names.
+// What the words do if the call fails that the log selects.
 fn carried(
     alloc: Global,
     words: &[String],
@@ -102,7 +102,7 @@ fn is_named(status: &Status, kind: Kind) -> bool {
     }
 }
 
-// The same of this call of a kind.
+// The same for this call of a kind.
 fn carried_up_to(
     alloc: Global,
     words: &[String],
@@ -114,8 +114,8 @@ fn carried_up_to(
     carried(alloc, words, image, row, &log)
 }
 
-// The first call of this kind that fails and is not the last one of both objects, or ends the words with another status. 0 where there is
-// none, and they make calls of this kind just where they are to.
+// The first call of this kind that fails and is not the last one on both objects, or ends the words with another status. The result is 0 if
+// there is none, and the words make calls of this kind exactly if they should.
 fn wrong_call(
     alloc: Global,
     words: &[String],
@@ -136,7 +136,7 @@ fn wrong_call(
     Err("the words make more calls".into())
 }
 
-// The same of the words over their image, whose records are open.
+// The same for the words over their image, whose records are open.
 fn first_wrong(alloc: Global, case: &Case, kind: Kind) -> Result<u64, Fail> {
     let mut words = Vec::new(alloc);
     for name in case.words.split('|') {
@@ -146,7 +146,7 @@ fn first_wrong(alloc: Global, case: &Case, kind: Kind) -> Result<u64, Fail> {
     wrong_call(alloc, &words, &image, case, kind)
 }
 
-// A body that mounts again behind a failed sync is refused, and one that takes or shows behind it.
+// It catches a body that mounts again after a failed sync, and one that takes or shows after it.
 #[test]
 fn nothing_is_mounted_again_behind_a_failed_sync(rt: HostRuntime) -> Result<(), Fail> {
     for line in cases().split_terminator('\n') {
@@ -156,7 +156,7 @@ fn nothing_is_mounted_again_behind_a_failed_sync(rt: HostRuntime) -> Result<(), 
     Ok(())
 }
 
-// So is one that takes input again behind a fault of it, and one that shows or changes more.
+// It also catches one that takes input again after an input fault, and one that shows or changes more.
 #[test]
 fn nothing_is_taken_again_behind_a_fault_of_the_input(rt: HostRuntime) -> Result<(), Fail> {
     for line in cases().split_terminator('\n') {

@@ -1,9 +1,9 @@
-//! Sessions against how many bytes another program made, written apart from this one, and what their sum was.
+//! Sessions compared with the number of bytes that another program made, which was written separately, and with their sum.
 
 use lis_grow::GrowSource;
 use lis_ports::Source;
 
-/// A number, how many bytes its session has, and their sum, each weighed by its place.
+/// A number, how many bytes its session has, and their sum, each weighted by its position.
 static SESSIONS: [(u32, u64, u32); 3] = [
     (0, 35_948, 3_921_030_844),
     (7, 35_948, 1_308_323_982),

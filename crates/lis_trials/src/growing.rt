@@ -30,7 +30,7 @@ fn fresh(alloc: Global) -> Result<MemStation, Fail> {
     Ok(station)
 }
 
-// What the session of the number 7 shows, done so many times.
+// What the session of the number 7 shows, run this many times.
 fn grown(alloc: Global, times: u32) -> Result<String, Fail> {
     let mut station = fresh(alloc)?;
     for _ in 0..times {
@@ -41,7 +41,7 @@ fn grown(alloc: Global, times: u32) -> Result<String, Fail> {
     Ok(row_of(alloc, station.shown())?)
 }
 
-// All words, axioms and files are there the second time, but for the files that were removed, and these are made and removed again.
+// The second time all words, axioms and files are there, except the files that were removed. These are made and removed again.
 #[test]
 fn a_session_of_a_number_is_always_the_same(rt: HostRuntime) -> Result<(), Fail> {
     let once = "replies 1241;refused 0;files 800;axioms 15;free 28;listed 81;";
@@ -54,7 +54,7 @@ fn a_session_of_a_number_is_always_the_same(rt: HostRuntime) -> Result<(), Fail>
     Ok(())
 }
 
-// The session meets a call of the disk that fails behind the opening. Nothing is shown.
+// A disk call of the session fails after the opening. Nothing is shown.
 fn meet_disk_fault(alloc: Global, station: &mut MemStation) -> Result<(), Fail> {
     let number = station.calls().saturating_add(1_000);
     station.fails.push(number)?;
@@ -66,7 +66,7 @@ fn meet_disk_fault(alloc: Global, station: &mut MemStation) -> Result<(), Fail> 
     Ok(())
 }
 
-// It meets a call that fails to show. Nothing is shown.
+// A show call of the session fails. Nothing is shown.
 fn meet_output_fault(alloc: Global, station: &mut MemStation) -> Result<(), Fail> {
     station.show_fails.push(1)?;
     let status = grow(alloc, "7", station)?;
@@ -76,7 +76,7 @@ fn meet_output_fault(alloc: Global, station: &mut MemStation) -> Result<(), Fail
     Ok(())
 }
 
-// What a look shows behind both.
+// What a look shows after both.
 fn left_by_faults(alloc: Global) -> Result<String, Fail> {
     let mut station = fresh(alloc)?;
     meet_disk_fault(alloc, &mut station)?;
@@ -85,7 +85,7 @@ fn left_by_faults(alloc: Global) -> Result<String, Fail> {
     Ok(row_of(alloc, station.shown())?)
 }
 
-// Where a call of the disk fails, nothing is shown. Where a call that shows fails, all was carried out.
+// If a disk call fails, nothing is shown. If a show call fails, all items were run.
 #[test]
 fn a_fault_shows_nothing_of_the_summary(rt: HostRuntime) -> Result<(), Fail> {
     let shown = left_by_faults(rt.alloc())?;

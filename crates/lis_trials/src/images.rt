@@ -19,7 +19,7 @@ pub static MAKES: [&[&str]; 2] = [
     &["make", "i", "64", "64", "8", "v2"],
 ];
 
-/// Where its extension rows begin, each of eight bytes.
+/// The byte at which its extension rows begin, each of eight bytes.
 const ROWS_START: usize = 584 * 4_096;
 
 fn zeros(alloc: Global, len: usize) -> Result<Vec<u8>, AllocError> {
@@ -110,7 +110,7 @@ fn images_show_the_same_of_long_lines_and_many_words(rt: HostRuntime) -> Result<
     Ok(())
 }
 
-// How words end over so many zero bytes, and how many bytes they take and show.
+// How words end over this many zero bytes, and how many bytes they take and show.
 fn on_zeros(alloc: Global, words: &[&str], len: usize) -> Result<(Status, usize, usize), Fail> {
     let mut station = MemStation::new(alloc, &zeros(alloc, len)?, 0)?;
     let (status, taken) = call(alloc, words, "mkdir a;", &SOUND, &mut station)?;
@@ -141,7 +141,7 @@ fn no_image_is_made_of_a_byte_less(rt: HostRuntime) -> Result<(), Fail> {
     Ok(())
 }
 
-/// Carries out sessions, one after another, each of which must be done.
+/// Runs sessions, one after another, each of which must be done.
 pub fn run_all(alloc: Global, rows: &[&str], station: &mut MemStation) -> Result<(), Fail> {
     for row in rows {
         if run(alloc, row, station)? != Status::DONE {
@@ -151,14 +151,14 @@ pub fn run_all(alloc: Global, rows: &[&str], station: &mut MemStation) -> Result
     Ok(())
 }
 
-/// The bytes of an image behind such sessions.
+/// The bytes of an image after such sessions.
 pub fn used(alloc: Global, image: &[u8], rows: &[&str]) -> Result<Vec<u8>, Fail> {
     let mut station = MemStation::new(alloc, image, 0)?;
     run_all(alloc, rows, &mut station)?;
     bytes_of(alloc, &mut station)
 }
 
-// The bytes of an image with a file that has a word. A second session has brought the records home.
+// The bytes of an image with a file that has a word. The opening of a second session has written the records to their homes.
 fn with_file(alloc: Global) -> Result<Vec<u8>, Fail> {
     used(alloc, &fresh(alloc)?, &["mkdir music;create s music;", ""])
 }
@@ -183,7 +183,7 @@ fn rows_tell_which_file_has_which_word(rt: HostRuntime) -> Result<(), Fail> {
     Ok(())
 }
 
-/// What was shown behind so many bytes.
+/// What was shown after this many bytes.
 pub fn shown_behind(alloc: Global, station: &MemStation, before: usize) -> Result<String, Fail> {
     match station.shown().get(before..) {
         None => Err("less was shown".into()),
@@ -191,7 +191,7 @@ pub fn shown_behind(alloc: Global, station: &MemStation, before: usize) -> Resul
     }
 }
 
-/// How a session with a fault ended and what it showed, and the same of one behind it without the fault.
+/// How a session with a fault ended and what it showed, and the same for one after it without the fault.
 #[derive(Drop)]
 struct Both {
     status: Status,
@@ -200,7 +200,7 @@ struct Both {
     reply: String,
 }
 
-// Both sessions over a station that lets a call fail.
+// Both sessions over a station on which a call fails.
 fn run_both(alloc: Global, rows: [&str; 2], station: &mut MemStation) -> Result<Both, Fail> {
     let status = run(alloc, rows[0], station)?;
     let shown = row_of(alloc, station.shown())?;
@@ -216,14 +216,14 @@ fn run_both(alloc: Global, rows: [&str; 2], station: &mut MemStation) -> Result<
     })
 }
 
-// The same over such an image, where the second show fails.
+// The same over such an image, if the second show fails.
 fn with_failing_show(alloc: Global, image: &[u8], rows: [&str; 2]) -> Result<Both, Fail> {
     let mut station = MemStation::new(alloc, image, 0)?;
     station.show_fails.push(2)?;
     run_both(alloc, rows, &mut station)
 }
 
-// The replies of the first command are shown whole or in part; the second command was carried out where the first reply was whole.
+// The reply to the first command is shown whole or in part; the second command was run if the first reply was whole.
 #[test]
 fn a_failing_show_leaves_what_was_carried_out(rt: HostRuntime) -> Result<(), Fail> {
     let alloc = rt.alloc();
@@ -239,14 +239,14 @@ fn a_failing_show_leaves_what_was_carried_out(rt: HostRuntime) -> Result<(), Fai
     Ok(())
 }
 
-/// How many calls of the disk opening these bytes makes.
+/// How many disk calls opening these bytes makes.
 pub fn opening_calls(alloc: Global, image: &[u8]) -> Result<u64, AllocError> {
     let mut station = MemStation::new(alloc, image, 0)?;
     run(alloc, "", &mut station)?;
     Ok(station.calls())
 }
 
-// Both sessions over such an image, where a call of the disk fails.
+// Both sessions over such an image, if a disk call fails.
 fn with_failing_call(
     alloc: Global,
     image: &[u8],
@@ -258,7 +258,7 @@ fn with_failing_call(
     run_both(alloc, rows, &mut station)
 }
 
-// A word is declared once, by the first session or behind its fault by the second.
+// Whether the word is declared once: by the first session or, after its fault, by the second.
 fn is_declared_once(both: &Both) -> bool {
     let is_fault = both.status.is_disk_fault();
     let is_new = is_fault && both.reply.as_str() == "ok;";
@@ -266,8 +266,7 @@ fn is_declared_once(both: &Both) -> bool {
         && (is_new || both.reply.as_str() == "no 11 already declared;")
 }
 
-// The call of the disk that fails, counted from the first one behind the opening; nothing is shown, and the state is the old one or
-// the new one.
+// The failing disk call is counted from the first one after the opening. Nothing is shown, and the state is the old one or the new one.
 #[test]
 fn a_failing_sync_shows_nothing(rt: HostRuntime) -> Result<(), Fail> {
     let alloc = rt.alloc();
@@ -282,7 +281,7 @@ fn a_failing_sync_shows_nothing(rt: HostRuntime) -> Result<(), Fail> {
     Ok(())
 }
 
-// Want of memory comes at the opening, and then nothing is shown: a run with each allocation failing in turn shows all or nothing.
+// Memory can run out only at the opening, and then nothing is shown: a run in which one allocation fails shows all or nothing.
 #[test]
 fn want_of_memory_comes_before_anything_is_shown(rt: HostRuntime) -> Result<(), Fail> {
     let alloc = rt.alloc();

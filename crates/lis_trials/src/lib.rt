@@ -1,4 +1,4 @@
-//! The program's sessions as tables: what goes in, and what must be shown. But for what a session begins with, all here are tests.
+//! The program's sessions as tables: what is read, and what must be shown. Except for how a session begins, all code here is tests.
 #![tactic(auto)]
 
 #[cfg(test)]

@@ -1,4 +1,4 @@
-//! Sessions over an opened store: with a small limit, and what they edit of its extension rows.
+//! Sessions over an opened store: with a small limit, and how they edit its extension rows.
 
 ghost use Rattle.std.specs.Prelude.{◌≤◌, ◌^◌, IfOk};
 ghost use Rattle.lis_memdisk.specs.MemStation.{meaning_of};
@@ -17,7 +17,7 @@ use lis_shell::status::Status;
 use std::alloc::{AllocError, Global};
 use std::test::Fail;
 
-// How a session ends, over any input and any station: what is known of those in memory would stand in each step of its check.
+// How a session ends, over any input and any station: otherwise each step of its check holds what is known of those in memory.
 fn served<S: Source, T: Station>(
     session: &mut Session,
     payload: &mut Payload,
@@ -74,7 +74,7 @@ fn serve_image(
     Ok(status?)
 }
 
-// How the session ends at a small limit, its replies, and those of one behind it without the limit.
+// How the session ends at a small limit, its replies, and those of a session after it without the limit.
 fn cut_and_again(
     alloc: Global,
     row: &str,
@@ -106,7 +106,7 @@ fn a_session_ends_at_its_limit(rt: HostRuntime) -> Result<(), Fail> {
     Ok(())
 }
 
-// How often bits of extension rows were changed by a session over an empty image.
+// How often a session over an empty image changed bits of extension rows.
 fn edits_by(alloc: Global, row: &str, station: &mut MemStation) -> Result<u64, Fail> {
     let mut session = opened(alloc, station)?;
     let status = serve_row(alloc, &mut session, row, station, 1_000);

@@ -1,4 +1,4 @@
-//! Parts of a file over images in memory: what is shown of them, and what is left of the file.
+//! Parts of a file over images in memory: what is shown of them, and what the file has afterwards.
 
 use crate::images::{MAKES, bytes_of, made, session, used};
 use crate::tests::tables::{NOTES, NOTES_LEFT, part_cases};
@@ -8,10 +8,10 @@ use lis_shell::status::Status;
 use std::alloc::Global;
 use std::test::Fail;
 
-/// An edited view of which some fronts are edited views too.
+/// An edited view, some prefixes of which are edited views too.
 const EDITED: &str = "@1 2;+alpha;+end;";
 
-// The bytes of an image with the file, which these words make. Its records are open.
+// The bytes of an image with the file, which these words make. The image's records are open.
 fn noted(alloc: Global, words: &[&str]) -> Result<Vec<u8>, Fail> {
     used(alloc, &made(alloc, words)?, &[NOTES])
 }
@@ -22,7 +22,7 @@ fn left_on(alloc: Global, station: &mut MemStation) -> Result<String, Fail> {
     Ok(shown)
 }
 
-/// How a part was carried out, what it showed, how many bytes of the input it took, and what the file has behind it.
+/// How a part was viewed or put back, what it showed, how many bytes of the input it took, and what the file has afterwards.
 #[derive(Drop)]
 struct Carried {
     status: Status,

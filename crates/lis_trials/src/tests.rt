@@ -1,5 +1,5 @@
-//! What a session shows of its input, whatever pieces it comes in, and how it ends. In rows `;` stands for a line feed, `^` for
-//! a carriage return, `~` for a tab and `%` for a semicolon.
+//! What a session shows for its input, in whatever pieces it comes, and how it ends. In rows `;` means a line feed, `^` a carriage return,
+//! `~` a tab and `%` a semicolon.
 
 ghost use Rattle.std.specs.Prelude.{◌≡◌};
 ghost use Rattle.lis_memdisk.specs.MemStation.{meaning_of};
@@ -34,8 +34,8 @@ static PIECES: [(&[&str], usize); 6] = [
     (&["try", "64", "64", "8", "v2"], 4_096),
 ];
 
-/// How the outside behaves: the bytes that one call of the source gives, the place at which it fails, the bytes that one call
-/// shows, and the number of the call that fails to show, 0 for none.
+/// How the source and the station behave: how many bytes one call of the source gives, the offset at which it fails, how many bytes one
+/// call shows, and the number of the show call that fails, 0 for none.
 #[derive(Clone, Copy)]
 pub struct Outside {
     pub step: usize,
@@ -87,7 +87,7 @@ pub fn row_of(alloc: Global, bytes: &[u8]) -> Result<String, AllocError> {
     Ok(row)
 }
 
-/// The words of a line with `|` between two of them; none of an empty line.
+/// The words of a line, separated by `|`; an empty line has none.
 pub fn words_of(alloc: Global, line: &str) -> Result<Vec<&str>, AllocError> {
     let mut words = Vec::new(alloc);
     if !line.is_empty() {
@@ -116,8 +116,8 @@ fn station(alloc: Global, outside: &Outside) -> Result<MemStation, AllocError> {
     Ok(station)
 }
 
-/// The program over any input and any station, since what is known of those in memory would stand in each step of its check. Its
-/// clause hands on only that a recorded station stays one.
+/// The program over any input and any station, since otherwise each step of its check holds what is known of those in memory. Its clause
+/// passes on only that a recorded station stays recorded.
 pub fn run_program<S: Source, T: Station>(
     alloc: Global,
     words: &[String],
@@ -160,12 +160,12 @@ fn run(alloc: Global, words: &[&str], row: &str, outside: &Outside) -> Result<Se
     })
 }
 
-// The session is done, has taken all of its input, and made no call of a disk.
+// Whether the session is done, has taken all of its input, and made no disk call.
 fn is_whole(seen: &Seen, row: &str) -> bool {
     seen.status == Status::DONE && seen.taken == row.len() && seen.calls == 0
 }
 
-// They are done: no clause can say that there is memory, so a body that gives up would be proved.
+// The sessions are done. No clause can say that there is memory, so a body that always runs out of memory would be proved.
 #[test]
 fn sessions_show_the_same_in_any_pieces(rt: HostRuntime) -> Result<(), Fail> {
     for line in sessions().split_terminator('\n') {
@@ -195,7 +195,7 @@ fn long_row(alloc: Global, count: usize, behind: &str) -> Result<String, AllocEr
     Ok(row)
 }
 
-/// A line that adds a file of so many bytes, and the bytes.
+/// A line that adds a file of this many bytes, and the bytes.
 pub fn push_file(row: &mut String, line: &str, size: usize) -> Result<(), AllocError> {
     row.push_str(line)?;
     for _ in 0..size {
@@ -205,7 +205,7 @@ pub fn push_file(row: &mut String, line: &str, size: usize) -> Result<(), AllocE
     Ok(())
 }
 
-/// Lines that add files of these names and sizes, and what comes behind them.
+/// Lines that add files of these names and sizes, and what follows them.
 pub fn files_row(
     alloc: Global,
     files: &[(&str, usize)],
@@ -230,7 +230,7 @@ fn files_are_as_large_as_there_are_blocks(rt: HostRuntime) -> Result<(), Fail> {
     Ok(())
 }
 
-// Two files of about 1,000 bytes, looked at by their size, and what is shown.
+// Two files of about 1,000 bytes, listed by their size, and what is shown.
 fn sized_row(alloc: Global) -> Result<(String, &'static str), AllocError> {
     let mut row = String::new(alloc);
     push_file(&mut row, "add a 1000;", 1_000)?;
@@ -254,7 +254,7 @@ fn tested_row(alloc: Global) -> Result<(String, &'static str), AllocError> {
     ))
 }
 
-// Files each with a suffix of its own, as many as there is room for their words and one more, and what is shown.
+// Files that each have their own suffix, one more than there is room for their words, and what is shown.
 fn crowded_row(alloc: Global) -> Result<(String, String), AllocError> {
     let mut row = String::new(alloc);
     let mut wanted = String::new(alloc);
@@ -267,7 +267,8 @@ fn crowded_row(alloc: Global) -> Result<(String, String), AllocError> {
     Ok((row, wanted))
 }
 
-/// Sessions whose rows are put together, and what is shown of each: of long lines, and of words by size and by name that come and go.
+/// Sessions whose rows are put together, and what is shown of each: with long lines, and with words by size and by name that appear and
+/// disappear.
 pub fn built_sessions(alloc: Global) -> Result<Vec<(String, String)>, AllocError> {
     let mut sessions = Vec::new(alloc);
     for (count, behind, wanted) in long_lines() {
@@ -291,7 +292,7 @@ fn sessions_of_long_lines_and_many_words_show_the_same(rt: HostRuntime) -> Resul
     Ok(())
 }
 
-// Nothing was taken, shown or asked of a disk.
+// Whether nothing was taken or shown, and no disk call was made.
 fn is_untouched(seen: &Seen) -> bool {
     seen.shown.is_empty() && seen.taken == 0 && seen.calls == 0
 }
@@ -318,7 +319,7 @@ fn right_words_are_carried_out(rt: HostRuntime) -> Result<(), Fail> {
     Ok(())
 }
 
-// At one byte a call it is known what was shown: a byte for each call before the one that failed.
+// At one byte a call it is known what was shown: one byte for each call before the failed one.
 #[test]
 fn a_failing_show_ends_behind_a_front_of_the_replies(rt: HostRuntime) -> Result<(), Fail> {
     for (show_fails, shown, status) in failing_shows() {
@@ -366,7 +367,7 @@ fn go_on(
     })
 }
 
-// A session that is cut, and a second one on the state that it left.
+// A session that is cut off, and a second one on the state that it left.
 fn seen_both(alloc: Global, case: &Cut) -> Result<(Seen, Seen), Fail> {
     let limits = Limits {
         files: 64,
@@ -386,7 +387,7 @@ fn seen_both(alloc: Global, case: &Cut) -> Result<(Seen, Seen), Fail> {
     Ok((first, second))
 }
 
-// What a session left is seen by the replies to a second one on the same state.
+// The replies to a second session on the same state show what a session left.
 #[test]
 fn a_cut_session_leaves_what_it_had_carried_out(rt: HostRuntime) -> Result<(), Fail> {
     for case in &CUT_SESSIONS {

@@ -13,7 +13,7 @@ use lis_shell::status::Status;
 use std::alloc::{AllocError, Global};
 use std::test::Fail;
 
-/// The words that make an image with room for a file that version 1 does not take.
+/// The words that make an image with room for a file that is too large for version 1.
 static SMALL: [&str; 5] = ["make", "i", "64", "64", "40"];
 
 /// Room for the record of an upgrade.
@@ -22,19 +22,19 @@ const ROOM: u64 = 1 << 20;
 /// How many bytes a block has.
 const BLOCK_LEN: usize = 4_096;
 
-/// Where such an image has its first file slot, and its first data block.
+/// The bytes at which such an image has its first file slot, and its first data block.
 const FILES_START: usize = 580 * BLOCK_LEN;
 
 const DATA_START: usize = 586 * BLOCK_LEN;
 
-/// Where a file slot has its first block number.
+/// The byte of a file slot at which its first block number is.
 const NUMBERS_AT: usize = 100;
 
 /// How many bytes a file slot has.
 const FILE_LEN: usize = 256;
 
-/// A place of an image with a file above 65,536 bytes in slot 0, and a small one in slot 1: in the super block, in a file slot, or in
-/// the index block of the first file.
+/// An offset in an image with a file above 65,536 bytes in slot 0, and a small one in slot 1: in the super block, in a file slot, or in the
+/// index block of the first file.
 #[derive(Clone, Copy, Debug)]
 enum Place {
     Super(usize),
@@ -55,12 +55,12 @@ enum Written {
     FirstNumber,
 }
 
-/// Damages of such an image, and where the first check fails.
+/// Damages of such an image, and the spot of the first check that fails.
 static DAMAGES: [(Place, Written, Spot); 9] = [
-    // Something behind the numbers.
+    // Bytes after the numbers that are not zero.
     (Place::Index(34), Written::Bytes([1, 0]), Spot::File(0)),
     (Place::Index(4_094), Written::Bytes([0, 1]), Spot::File(0)),
-    // A number that no block has, and the numbers of blocks that are used already.
+    // A number of no block, and the numbers of blocks that are used already.
     (Place::Index(32), Written::Bytes([40, 0]), Spot::File(0)),
     (Place::Index(2), Written::FirstNumber, Spot::File(0)),
     (Place::Index(0), Written::IndexNumber, Spot::File(0)),
@@ -75,7 +75,7 @@ static DAMAGES: [(Place, Written, Spot); 9] = [
         Written::Bytes([1, 0]),
         Spot::File(0),
     ),
-    // In version 1 a file has not so many bytes.
+    // In version 1 a file can't have this many bytes.
     (Place::Super(24), Written::Bytes([255, 0]), Spot::File(0)),
 ];
 
@@ -96,7 +96,7 @@ fn upgrade(alloc: Global, station: &mut MemStation) -> Result<(Status, usize), A
     call(alloc, &["upgrade", "i"], "mkdir a;", &SOUND, station)
 }
 
-// A station with an image of version 1 on which a file was refused. It has nothing left to bring home.
+// The bytes of an image of version 1 on which a file was refused. The image has no open record.
 fn refused(alloc: Global) -> Result<Vec<u8>, Fail> {
     let mut station = MemStation::new(alloc, &made(alloc, &SMALL)?, 0)?;
     let mut row = String::new(alloc);
@@ -150,7 +150,7 @@ fn an_upgraded_image_takes_larger_files(rt: HostRuntime) -> Result<(), Fail> {
     Ok(())
 }
 
-// A station on which such an image became one of version 2.
+// A station on which such an image was made one of version 2.
 fn recorded(alloc: Global) -> Result<MemStation, Fail>
     ensures { IfOk result (λ station. IsTrue (meaning_of station).is_recorded) }
 {
@@ -162,7 +162,7 @@ fn recorded(alloc: Global) -> Result<MemStation, Fail>
     Ok(station)
 }
 
-// How a session that looks ends on what a crash just after the call leaves, and what it shows.
+// How a session that only looks ends on what a crash just after the call leaves, and what it shows.
 fn left_by(
     alloc: Global,
     station: &MemStation,
@@ -198,14 +198,14 @@ fn a_crash_of_an_upgrade_leaves_an_image_that_opens(rt: HostRuntime) -> Result<(
     Ok(())
 }
 
-// The bytes of an image of version 2 with a file above 65,536 bytes and a small one. It has nothing left to bring home.
+// The bytes of an image of version 2 with a file above 65,536 bytes and a small one. The image has no open record.
 fn with_files(alloc: Global) -> Result<Vec<u8>, Fail> {
     let words = ["make", "i", "64", "64", "40", "v2"];
     let row = files_row(alloc, &[("a", 65_537), ("b", 1)], "")?;
     used(alloc, &made(alloc, &words)?, &[row.as_str(), ""])
 }
 
-// The two bytes there; zeros where there are none.
+// The two bytes there; zeros if there are none.
 fn pair_at(image: &[u8], at: usize) -> [u8; 2] {
     match image.get(at..) {
         Some([low, high, ..]) => [*low, *high],
@@ -213,7 +213,7 @@ fn pair_at(image: &[u8], at: usize) -> [u8; 2] {
     }
 }
 
-// Where the index block of the first file begins.
+// The byte at which the index block of the first file begins.
 fn index_at(image: &[u8]) -> usize {
     let number = u16::from_le_bytes(pair_at(image, FILES_START + NUMBERS_AT));
     DATA_START + BLOCK_LEN * usize::from(number)
@@ -248,7 +248,7 @@ fn put(bytes: &mut Vec<u8>, at: usize, value: u8) -> bool {
     }
 }
 
-// Writes this there, by the numbers of the image as it was.
+// Writes this there, by the numbers in the image as it was.
 fn damage(image: &[u8], bytes: &mut Vec<u8>, place: Place, what: Written) -> bool {
     let at = address(image, place);
     let [low, high] = bytes_for(image, what);
@@ -274,7 +274,7 @@ fn damaged_index_blocks_are_named(rt: HostRuntime) -> Result<(), Fail> {
     Ok(())
 }
 
-// The image with another value of the gate of a version.
+// The image with another value of the version gate.
 fn with_gate(alloc: Global, image: &[u8], gate: u8) -> Result<Vec<u8>, Fail> {
     let mut bytes = image.to_vec(alloc)?;
     match bytes.get_mut(24) {
@@ -284,14 +284,14 @@ fn with_gate(alloc: Global, image: &[u8], gate: u8) -> Result<Vec<u8>, Fail> {
     Ok(bytes)
 }
 
-// How a session ends over it that adds a large file, and what it shows.
+// How a session that adds a large file ends over it, and what it shows.
 fn large_file_with_gate(alloc: Global, image: &[u8], gate: u8) -> Result<(Status, String), Fail> {
     let row = files_row(alloc, &[("a", 65_537)], "")?;
     let bytes = with_gate(alloc, image, gate)?;
     Ok(session(alloc, &bytes, row.as_str())?)
 }
 
-// Every value of the gate of a version but one is version 1, and an image without large files opens as either.
+// Every value of the version gate except 2 is version 1, and an image without large files opens as either.
 #[test]
 fn the_gate_of_a_version_may_have_any_value(rt: HostRuntime) -> Result<(), Fail> {
     let alloc = rt.alloc();

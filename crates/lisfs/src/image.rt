@@ -16,11 +16,11 @@ pub struct ImageFile {
 
 const INPUT: i32 = 0;
 
-// The numbers of standard input, output and error are those up to this one.
+// Standard input, output and error have the numbers up to this one.
 const LAST_STANDARD: i32 = 2;
 
-// A file that can't be read, with the number of standard input, where that is closed: a closed input is a fault, and not an empty
-// one. It can be written, so it must have no other number.
+// If standard input is closed, a file with its number that can't be read: so a closed input is a fault, and not an empty input. The file
+// can be written, so it must have no other number.
 fn hold_input(rt: &HostRuntime) -> io::Result<Option<File>> {
     let file = OpenOptions::new().write(true).open(rt, "/dev/null")?;
     if file.as_raw_fd() == INPUT {
@@ -30,9 +30,9 @@ fn hold_input(rt: &HostRuntime) -> io::Result<Option<File>> {
     }
 }
 
-/// Takes the numbers of standard input, output and error where these are closed, as long as the files are held. Else the file of an
-/// image would get one, and replies would be written into it. Nothing can be read or shown through these. Where it fails, the numbers stay
-/// free, and `open` refuses a file that gets one.
+/// Takes the numbers of standard input, output and error that are closed, as long as the files are held. Otherwise the file of an image
+/// would get one, and replies would be written into it. Nothing can be read or shown through the held files. If this fails, the numbers
+/// stay free, and `open` refuses a file that gets one.
 pub fn hold_standard(rt: &HostRuntime) -> io::Result<Vec<File>> {
     let mut held = Vec::new(rt.alloc());
     if let Some(input) = hold_input(rt)? {
@@ -56,13 +56,13 @@ fn folder_of(path: Path<'_>) -> Path<'_> {
     }
 }
 
-// How many bytes a file or a block device has. The metadata of a device say none, so its end is looked for.
+// How many bytes a file or a block device has. The metadata of a device do not say it, so it seeks the end.
 fn len_of(mut file: &File) -> io::Result<u64> {
     file.seek(SeekFrom::End(0))
 }
 
-// Makes the file at least so long; a block device keeps its length. A power loss then doesn't take it away: its length and its name are
-// kept. The folder is that of the file and not that of a symbolic link to it, and it is opened before the file gets its length.
+// Makes the file at least this long; a block device keeps its length. Syncing keeps the length and the name of the file through a power
+// loss. The folder is that of the file and not that of a symbolic link to it, and it is opened before the file gets its length.
 fn lengthen(rt: &HostRuntime, path: &str, file: &File, len: u64) -> io::Result<()> {
     let real = fs::canonicalize(rt, path)?;
     let folder = File::open(rt, folder_of(real.as_path()))?;
@@ -84,8 +84,8 @@ fn lock(file: &File) -> io::Result<()> {
     }
 }
 
-/// Opens the file, and takes its lock. Where a length is given, the file is made where there is none, and lengthened to it. It fails
-/// where another program holds the lock, and where the file has the number of standard input, output or error.
+/// Opens the file, and takes its lock. If a length is given, the file is made if there is none, and lengthened to it. It fails if another
+/// program holds the lock, or if the file has the number of standard input, output or error.
 pub fn open(rt: &HostRuntime, path: &str, needed: Option<u64>) -> io::Result<ImageFile> {
     let file = OpenOptions::new()
         .read(true)

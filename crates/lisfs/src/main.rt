@@ -1,4 +1,4 @@
-//! The program: it hands the real input and output to the top call, and ends with its exit code.
+//! The program: it passes the real input and output to the top call, and exits with its exit code.
 #![tactic(auto)]
 
 ghost use Rattle.lis_shell.specs.Words.{MakesInRange};
@@ -33,7 +33,7 @@ fn words(rt: &HostRuntime) -> Result<Vec<String>, Status> {
     Ok(words)
 }
 
-// The path of the image, where the words have one.
+// The path of the image, if the words have one.
 fn path_of(words: &[String]) -> &str {
     match words.get(1) {
         Some(path) => path.as_str(),
@@ -41,7 +41,7 @@ fn path_of(words: &[String]) -> &str {
     }
 }
 
-/// The image that the task is about, if it is about one.
+/// The image of the task, if it has one.
 fn image_of(rt: &HostRuntime, task: &Task, words: &[String]) -> io::Result<Option<ImageFile>>
     requires { MakesInRange task.now }
 {
@@ -54,14 +54,14 @@ fn image_of(rt: &HostRuntime, task: &Task, words: &[String]) -> io::Result<Optio
     }
 }
 
-/// How the run ended, and why the disk failed where it did.
+/// How the run ended, and, if the disk failed, why.
 fn run(rt: &HostRuntime, words: &[String]) -> (Status, Option<Error>) {
-    // Wrong words end the run whatever else is amiss, so no stream, file or memory is asked for before.
+    // Wrong words end the run whatever else is wrong, so no stream, file or memory is requested before.
     let Some(task) = task_of(words) else {
         return (Status::Usage, None);
     };
     let _standard = image::hold_standard(rt);
-    // Without a file every call of the disk fails.
+    // Without a file every disk call fails.
     let (file, len, cause) = match image_of(rt, &task, words) {
         Ok(Some(image)) => (Some(image.file), image.len, None),
         Ok(None) => (None, u64::MAX, None),
@@ -93,7 +93,7 @@ fn main(rt: HostRuntime) -> ExitCode {
         }
         Err(status) => (Vec::new(rt.alloc()), status, None),
     };
-    // A text that can't be printed changes nothing of the exit code.
+    // A text that can't be printed does not change the exit code.
     let _ = report::print(&rt, &status, &words, cause);
     ExitCode::from(exit_code(&status))
 }

@@ -21,7 +21,7 @@ fn write_spot(error: &mut impl Write, spot: &Spot) -> io::Result<()> {
     }
 }
 
-// What the system says of its error, without its number.
+// The system's text of an error, without its number.
 fn words_of(text: &str) -> &str {
     match text.split_once(" (os error ") {
         Some((words, _)) => words,
@@ -29,7 +29,7 @@ fn words_of(text: &str) -> &str {
     }
 }
 
-// The line of a cause. Where there is no memory for it, nothing of it is printed.
+// The line of a cause. If there is no memory for it, nothing of it is printed.
 fn write_cause(
     rt: &HostRuntime,
     error: &mut impl Write,
@@ -40,7 +40,7 @@ fn write_cause(
     writeln!(error, "{path}: {}", words_of(text.as_str()))
 }
 
-// What `--help` and `--version` ask for, on standard output.
+// What `--help` and `--version` request, on standard output.
 fn print_parts(rt: &HostRuntime, parts: &[&[u8]]) -> io::Result<()> {
     let mut out = io::writer(rt);
     for part in parts {
@@ -49,7 +49,7 @@ fn print_parts(rt: &HostRuntime, parts: &[&[u8]]) -> io::Result<()> {
     Ok(())
 }
 
-// The text of a status, and below it what more is known of its cause.
+// The text of a status, and after it what else is known of its cause.
 fn print_status(
     rt: &HostRuntime,
     status: &Status,
@@ -80,7 +80,7 @@ fn print_status(
     }
 }
 
-/// Says on standard error how it ended and why; to `--help` and `--version`, on standard output, what they ask for.
+/// Prints on standard error how the program ended and why; for `--help` and `--version`, what they request, on standard output.
 pub fn print(
     rt: &HostRuntime,
     status: &Status,

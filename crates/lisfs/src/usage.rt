@@ -1,4 +1,4 @@
-//! What is amiss with words that are in no form, and what `--help` and `--version` ask for.
+//! What is wrong with words that are in no form, and what `--help` and `--version` request.
 
 use lis_model::limits::{is_blocks_limit, is_files_limit, is_props_limit};
 use lis_shell::words::FORMS;
@@ -21,7 +21,7 @@ docs/GUIDE.md is a page for users, and docs/lisfs.1 a man page.
 const VERSION: &[u8] = b"lisfs, unreleased; images of versions 1 and 2
 ";
 
-/// What words that are in no form ask for, where it is a text alone.
+/// The text that words in no form request, if they are `--help` or `--version`.
 pub fn asked_for(words: &[String]) -> Option<&'static [&'static [u8]]> {
     match words {
         [word] if word.as_str() == "--help" => Some(&[HELP, FORMS, RANGES]),
@@ -51,7 +51,7 @@ fn is_blocks(word: &str) -> bool {
     }
 }
 
-// One word that is out of its range.
+// A word that is out of its range.
 fn write_word(error: &mut impl Write, name: &str, word: &str, range: &str) -> io::Result<()> {
     writeln!(error, "{name} is '{word}', and has to be {range}")
 }
@@ -85,7 +85,7 @@ fn write_limits(error: &mut impl Write, limits: &[String]) -> io::Result<()> {
     }
 }
 
-// NAME of `view` and `put`.
+// A NAME of `view` or `put` that is no file name.
 fn write_name(error: &mut impl Write, name: &str) -> io::Result<()> {
     if read_name(name.as_bytes()).is_some() {
         return Ok(());
@@ -98,7 +98,7 @@ fn write_name(error: &mut impl Write, name: &str) -> io::Result<()> {
     )
 }
 
-// What is out of its range, a line each. Nothing where there are too few words, or too many: then the form says it.
+// Each word that is out of its range, on its own line. Nothing if there are too few words, or too many: then the form shows it.
 fn write_ranges(error: &mut impl Write, words: &[String]) -> io::Result<()> {
     match words {
         [word, limits @ ..] if word.as_str() == "try" => write_limits(error, limits),
@@ -113,7 +113,7 @@ fn write_ranges(error: &mut impl Write, words: &[String]) -> io::Result<()> {
     }
 }
 
-// Whether a line of the forms is of a word.
+// Whether a line of the forms belongs to a word.
 fn is_form_of(line: &[u8], word: &str) -> bool {
     match line.split(|byte| *byte == b' ').nth(1) {
         Some(name) => name == word.as_bytes(),
@@ -121,7 +121,7 @@ fn is_form_of(line: &[u8], word: &str) -> bool {
     }
 }
 
-// The forms of a word; whether there is one.
+// The forms of a word. The result says whether there is one.
 fn write_forms_of(error: &mut impl Write, word: &str) -> io::Result<bool> {
     let mut is_there = false;
     for line in FORMS.split(|byte| *byte == b'\n') {
@@ -134,7 +134,7 @@ fn write_forms_of(error: &mut impl Write, word: &str) -> io::Result<bool> {
     Ok(is_there)
 }
 
-/// Prints what is out of its range, and the form of the word; where there is no such word, or none at all, all forms.
+/// Prints what is out of range, and the form of the word. If there is no such word, or no word at all, it prints all forms.
 pub fn print(error: &mut impl Write, words: &[String]) -> io::Result<()> {
     let Some(word) = words.first() else {
         return error.write_all(FORMS);

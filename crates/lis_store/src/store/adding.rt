@@ -23,7 +23,8 @@ use lis_taxonomy::Search;
 use lis_words::Name;
 
 impl Store {
-    /// Makes a file of these bytes: `create` and `add` at the place. Where there are more bytes than a file may have, only their number counts.
+    /// Makes a file of these bytes: `create` and `add` at the place. If there are more bytes than a file may have, only their number
+    /// counts.
     pub(crate) fn add<D: Disk>(
         &mut self,
         disk: &mut D,
@@ -43,7 +44,7 @@ impl Store {
         self.put_file(disk, search, None, file.name, &words, file.bytes)
     }
 
-    /// Puts a file in, in the place of the one in the slot if one is told. All that is held back is committed before a large one.
+    /// Puts a file in, instead of the one in the slot if a slot is given. Before a large one, all that is held back is committed.
     pub(crate) fn put_file<D: Disk>(
         &mut self,
         disk: &mut D,
@@ -62,7 +63,7 @@ impl Store {
         ensures ended { EndsUnrefused self.new.is_broken result }
         ensures ends { Ends (disk.new ≡ disk.old) self.old self.new (D.meaning disk.old) (D.meaning disk.new) result }
     {
-        // The store is in form, whatever is committed.
+        // The store is sound, whatever is committed.
         let _ = &self.memory;
         if is_large(payload.len() as u32) {
             self.commit(disk)?;
@@ -70,7 +71,7 @@ impl Store {
         self.put_alone(disk, search, slot, name, words, payload)
     }
 
-    // The same, where nothing is held back before a large file. It is committed at once.
+    // As `put_file`, if nothing is held back before a large file. A large file is committed at once.
     fn put_alone<D: Disk>(
         &mut self,
         disk: &mut D,

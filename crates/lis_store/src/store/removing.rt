@@ -1,4 +1,4 @@
-//! Files that are taken away.
+//! Files that are removed.
 
 ghost use Rattle.std.specs.Prelude.{◌≡◌};
 ghost use Rattle.lis_model.specs.State.{State};
@@ -18,7 +18,7 @@ use lis_ports::Disk;
 use lis_words::Name;
 
 impl Store {
-    /// Takes a file away: `rm` at the place.
+    /// Removes a file: `rm` at the place.
     pub(crate) fn remove<D: Disk>(
         &mut self,
         disk: &mut D,

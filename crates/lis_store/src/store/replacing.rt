@@ -25,7 +25,7 @@ use lis_ports::Disk;
 use lis_words::Name;
 
 impl Store {
-    /// Gives a file other bytes: `write` at the place. Where there are more bytes than a file may have, only their number counts.
+    /// Gives a file other bytes: `write` at the place. If there are more bytes than a file may have, only their number counts.
     pub(crate) fn write<D: Disk>(
         &mut self,
         disk: &mut D,
@@ -116,7 +116,8 @@ impl Store {
         self.memory.hold(disk, MOST_HELD)
     }
 
-    /// Moves a file to the place to which a text leads: `mv` at the place. Its bytes are not read: the words derived from it stay.
+    /// Moves a file to the place to which a text leads: `mv` at the place. The file's bytes are not read, since the words derived from them
+    /// stay.
     pub(crate) fn retag<D: Disk>(
         &mut self,
         disk: &mut D,
@@ -133,7 +134,7 @@ impl Store {
             self.new (D.meaning disk.old) (D.meaning disk.new) result }
         ensures ends { Ends (disk.new ≡ disk.old) self.old self.new (D.meaning disk.old) (D.meaning disk.new) result }
     {
-        // As before each change, no call of the disk has failed.
+        // As before each change, no disk call has failed.
         prove!(!self.memory.is_broken);
         let next = place_or_refusal(place, text)?;
         let Some(slot) = self.slot_here(scratch, place, name) else {

@@ -1,4 +1,4 @@
-//! Words that are declared no more.
+//! Words whose declaration is removed.
 
 ghost use Rattle.std.specs.Prelude.{◌≡◌};
 ghost use Rattle.lis_model.specs.Step.{Situation, rmdir};
@@ -15,7 +15,7 @@ use lis_ports::Disk;
 use lis_words::Word;
 
 impl Store {
-    /// Takes the declaration of a word back: `rmdir`.
+    /// Removes the declaration of a word: `rmdir`.
     pub(crate) fn undeclare<D: Disk>(
         &mut self,
         disk: &mut D,

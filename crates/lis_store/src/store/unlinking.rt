@@ -17,7 +17,7 @@ use lis_taxonomy::Search;
 use lis_words::Word;
 
 impl Store {
-    /// Takes an axiom away: `unaxiom`.
+    /// Removes an axiom: `unaxiom`.
     pub(crate) fn unaxiom<D: Disk>(
         &mut self,
         disk: &mut D,

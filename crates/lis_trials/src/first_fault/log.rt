@@ -1,4 +1,4 @@
-//! A source and a station in memory whose calls stand in one log. The log lets one call fail; the calls behind it would succeed.
+//! A source and a station in memory whose calls are recorded in one log. The log lets one call fail; the calls after it would succeed.
 
 ghost use Rattle.std.specs.Prelude.{◌≡◌, refl};
 ghost use Rattle.lis_memdisk.specs.MemStation.{held, faults_of, meaning_of};
@@ -8,7 +8,7 @@ use lis_memdisk::MemStation;
 use lis_ports::{Disk, Failed, MemSource, Source, Station};
 use std::cell::Cell;
 
-/// What a call is of: the source, the disk, or the station that shows.
+/// The object of a call: the source, the disk, or the station that shows.
 #[derive(Clone, Copy, Debug, PartialEq, Eq)]
 pub enum Kind {
     Take,
@@ -27,7 +27,7 @@ impl Kind {
     }
 }
 
-/// How many calls there were, how many of the kind of which one is to fail, and the number of the last call that failed, 0 for none.
+/// How many calls there were, how many of the kind of which one must fail, and the number of the last failed call, 0 for none.
 #[derive(Drop)]
 pub struct Log {
     kind: Kind,
@@ -38,7 +38,7 @@ pub struct Log {
 }
 
 impl Log {
-    /// A log that lets this call of a kind fail, counted from 1.
+    /// A log that lets one call of a kind fail: the one with this number, counted from 1.
     pub fn new(kind: Kind, fails: u64) -> Log {
         Log {
             kind,
@@ -57,7 +57,7 @@ impl Log {
         self.failed.get()
     }
 
-    // A call begins. Answers whether it is to fail.
+    // A call begins. Returns whether it must fail.
     fn begins(&self, kind: Kind) -> bool {
         self.calls.set(self.calls.get().saturating_add(1));
         if kind != self.kind {
@@ -74,7 +74,7 @@ impl Log {
     }
 }
 
-/// A source whose calls stand in the log.
+/// A source whose calls are recorded in the log.
 #[derive(Drop)]
 pub struct LoggedSource<'a> {
     pub source: MemSource,
@@ -100,7 +100,7 @@ impl Source for LoggedSource<'_> {
     }
 }
 
-/// A station whose calls stand in the log.
+/// A station whose calls are recorded in the log.
 #[derive(Drop)]
 pub struct LoggedStation<'a> {
     pub station: MemStation,
@@ -108,7 +108,7 @@ pub struct LoggedStation<'a> {
 }
 
 impl LoggedStation<'_> {
-    // With no fuse left the call that begins fails.
+    // If no fuse is left, the call that begins fails.
     fn begin(&mut self, kind: Kind)
         ensures held { held self.new.station ≡ held self.old.station }
         ensures faults { faults_of self.new.station ≡ faults_of self.old.station }

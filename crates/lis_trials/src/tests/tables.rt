@@ -1,12 +1,12 @@
-//! The rows. What is wanted was worked out by hand from the rules of commands and listings. Long tables stand behind calls: of a static table
-//! that a loop goes through, each step of its check holds all rows. The longest are one text each, a row a line, which is checked sooner than
-//! tuples are.
+//! The rows. The expected results were worked out by hand from the rules of commands and listings. Long tables are results of functions: if
+//! a loop goes through a static table, each step of its check holds all rows. The longest are one text each, with a row on each line, which
+//! is checked sooner than tuples are.
 
 use lis_model::spot::Spot;
 use lis_open::OpenFault;
 use lis_shell::status::Status;
 
-/// Inputs of sessions, and what is shown. A line behind `# ` tells what the rows behind it are of.
+/// Inputs of sessions, and what is shown. A line that begins with `# ` says what the rows after it are about.
 pub fn sessions() -> &'static str {
     "\
 mkdir music;create a;create b music;ls; => ok;ok;ok;d music;f a;ok;
@@ -88,9 +88,9 @@ mkdir a;create x a;stat;add y 4097; => ok;ok;s files 1;s known 3;s axioms 0;s fr
 "
 }
 
-/// The words, files and how many bytes each is to have, what stands behind them, and what is shown.
+/// The words, the files with their sizes, what follows them, and what is shown.
 pub static LARGE_FILES: [(&[&str], &[(&str, usize)], &str, &str); 7] = [
-    // Blocks are given back.
+    // Blocks are freed.
     (
         &["try", "64", "64", "1"],
         &[],
@@ -127,7 +127,7 @@ pub static LARGE_FILES: [(&[&str], &[(&str, usize)], &str, &str); 7] = [
         "ls;",
         "ok;ok;d size:empty;d size:small;ok;",
     ),
-    // In version 2 larger files take one block more, and `write` can't use the old ones.
+    // In version 2 larger files take one more block, and `write` can't use the old blocks.
     (
         &["try", "64", "64", "300", "v2"],
         &[
@@ -141,7 +141,7 @@ pub static LARGE_FILES: [(&[&str], &[(&str, usize)], &str, &str); 7] = [
     ),
 ];
 
-/// How many bytes `a`, what stands behind them, and what is shown.
+/// How many bytes `a`, what follows them, and what is shown.
 pub fn long_lines() -> &'static [(usize, &'static str, &'static str)] {
     &[
         (1_025, ";pwd;", "no 02 long line;w /;ok;"),
@@ -151,7 +151,7 @@ pub fn long_lines() -> &'static [(usize, &'static str, &'static str)] {
     ]
 }
 
-/// Words in no form, or with a number out of range; an empty line stands for none.
+/// Words in no form, or with a number out of range; an empty line means no words.
 pub fn wrong_words() -> &'static str {
     "\
 try
@@ -227,7 +227,7 @@ grows|x|7
 "
 }
 
-/// Words of `try` in form, also at both ends of each range.
+/// Words of `try` in its form, also at both ends of each range.
 pub fn right_words() -> &'static str {
     "\
 try|64|64|1
@@ -250,8 +250,8 @@ pub fn failing_shows() -> &'static [(u64, &'static str, Status)] {
     ]
 }
 
-/// The limit, the bytes of a piece and the failing place; a session that they cut off, what it shows and how it ends; and
-/// another session on the state that the first one left.
+/// The limit, the bytes of a piece and the offset at which the source fails; a session that these cut off, what it shows and how it ends;
+/// and another session on the state that the first one left.
 pub type Cut = (
     u64,
     usize,
@@ -289,7 +289,7 @@ pub static CUT_SESSIONS: [Cut; 15] = [
         ("mkdir a;mkdir b;", "ok;ok;", Status::DONE),
         ("mkdir b;", "no 11 already declared;"),
     ),
-    // A line that is not whole at the fault is not carried out.
+    // A line that is incomplete at the fault is not run.
     (
         99,
         1,
@@ -311,7 +311,7 @@ pub static CUT_SESSIONS: [Cut; 15] = [
         ("mkdir a", "", Status::INPUT_FAULT),
         ("mkdir a;", "ok;"),
     ),
-    // The input is one byte longer than its limit, or just as long.
+    // The input is one byte longer than its limit, or exactly as long.
     (
         10,
         7,
@@ -365,7 +365,7 @@ pub static CUT_SESSIONS: [Cut; 15] = [
     ),
 ];
 
-/// The words that open an image, `|` between two of them.
+/// The words that open an image, separated by `|`.
 pub fn opening_words() -> &'static str {
     "\
 run|i
@@ -380,7 +380,7 @@ grow|i|2147483647
 "
 }
 
-/// How many bytes a disk of zeros has, and how each of these ends over it.
+/// How many bytes a disk of zeros has, and how each of these words ends over it.
 pub static ZEROS: [(usize, Status); 3] = [
     (0, Status::Opening(OpenFault::TooShort(0, 4_096))),
     (100, Status::Opening(OpenFault::TooShort(100, 4_096))),
@@ -392,7 +392,7 @@ pub const NOTES: &str = "add notes.txt 25;alpha one;beta;;alpha two;";
 
 pub const NOTES_LEFT: &str = "b 25;alpha one;beta;;alpha two;ok;";
 
-/// Words on an image of `NOTES`, an input, what is shown, and what the file has then where it is changed.
+/// Words on an image of `NOTES`, an input, what is shown, and what the file has afterwards if it was changed.
 pub fn part_cases() -> &'static str {
     "\
 view|i|notes.txt|word:alpha => ls; => +alpha one;@1 2;+alpha two;!;
@@ -415,14 +415,14 @@ put|i|notes.txt|!line: => @1 4; => ok; => b 26;alpha one;beta;;alpha two;;ok;
 "
 }
 
-/// Inputs at a limit of ten bytes: how the session ends, what it shows, and what the same input shows then in a run.
+/// Inputs at a limit of ten bytes: how the session ends, what it shows, and what the same input then shows in a run.
 pub static LIMITED: [(&str, Status, &str, &str); 2] = [
     ("mkdir abcd;", Status::INPUT_LIMIT, "", "ok;"),
     ("mkdir abc;", Status::DONE, "ok;", "no 11 already declared;"),
 ];
 
-/// Sessions on an empty image, and how many bits of its extension rows they edit: a bit for each word that a file gains or loses, its
-/// two by its size among them.
+/// Sessions on an empty image, and how many bits of its extension rows they edit: one bit for each word that a file gains or loses,
+/// including its two words by size.
 pub fn edit_counts() -> &'static [(&'static str, u64)] {
     &[
         ("mkdir a;mkdir b;", 0),
@@ -430,20 +430,21 @@ pub fn edit_counts() -> &'static [(&'static str, u64)] {
         ("mkdir a;mkdir k:;add f 1 a k:1;x;", 5),
         ("mkdir a;mkdir b;create f a b;rm f;", 8),
         ("mkdir a;create f a;create f a;create g b;rm g;", 3),
-        // What a file has before and after stays; `size:small` gets the number that `size:empty` leaves, and then no bit differs.
+        // What a file has before and after stays. `size:small` gets the number that `size:empty` had, so no bit differs.
         (
             "mkdir a;create e;create f a;rm e;write f 1;x;rename f g;",
             7,
         ),
-        // The first file keeps its word of an empty one, so that the second gets another number.
+        // The first file keeps `size:empty`, so `size:small` of the second one gets another number.
         ("create e;create f;write f 1;x;", 6),
         ("mkdir a;mkdir b;create x a;cd a;mv x /b;", 5),
-        // An axiom gives its word to each file that lacks it, and takes it from each that has no other reason for it.
+        // An axiom adds its word to each file that lacks it. Removing the axiom removes the word from each file that has it for no other
+        // reason.
         (
             "mkdir a;mkdir b;mkdir c;create f a;create g a c;axiom a b;axiom c b;unaxiom a b;unaxiom c b;",
             11,
         ),
-        // A declared test comes to the files that meet it, with the word of the place, and goes with its declaration alone.
+        // A declared test is added to the files that meet it, with the word of the place, and is removed only with its declaration.
         (
             "add f 3;xyz;create g;mkdir big;cd big;mkdir size>=2;cd /;rm g;unaxiom size>=2 big;rmdir size>=2;",
             10,
@@ -451,22 +452,23 @@ pub fn edit_counts() -> &'static [(&'static str, u64)] {
     ]
 }
 
-/// Commands that are all answered by `ok` alone, what looks at an image, and what that shows before the first command and behind each.
+/// Commands that all get the reply `ok` alone, a session that looks at an image, and what that shows before the first command and after
+/// each.
 pub struct Script {
     pub row: &'static str,
     pub look: &'static str,
-    /// A line each.
+    /// One on each line.
     pub states: &'static str,
 }
 
 impl Script {
-    /// What is shown behind so many commands.
+    /// What is shown after this many commands.
     pub fn state(&self, commands: usize) -> Option<&'static str> {
         self.states.split_terminator('\n').nth(commands)
     }
 }
 
-/// Ten commands, each of another kind but for the first two.
+/// Ten commands, each of a different kind except the first two.
 pub static KINDS: Script = Script {
     row: "mkdir music;mkdir rock;create s1 rock;add m 5 music;hello;axiom rock music;write m 2;hi;rename s1 s2.c;unaxiom rock music;mv s2.c /music;rm m;",
     look: "ls;stat;cat m;",
@@ -502,7 +504,7 @@ s files 0;s known 2;s axioms 0;s free 8;ok;no 10 no such file here;no 17 no such
 ",
 };
 
-/// A word is hidden once it entails another, and a file is listed where no word of the listing has it.
+/// The axiom gives `music` to both files, so it is no increment any more. A file is listed if it has no increment.
 pub static TWO_FILES: Script = Script {
     row: "mkdir music;mkdir rock;create s1 rock;create s2 music;axiom rock music;rename s2 s3.c;",
     look: "ls;",
@@ -517,8 +519,8 @@ d ext:;d rock;ok;
 ",
 };
 
-/// Places at which the source of the commands on one file fails at one byte a call, and how many of them are carried out then: the second
-/// line is not whole, or just so; so are a payload and all of it.
+/// Offsets at which the source of the commands on one file fails, at one byte a call, and how many of the commands are then run. At 22 and
+/// 23 the second line is incomplete and complete, at 59 and 60 a payload, and at 113 the input is complete.
 pub static FAILING_PLACES: [(usize, usize); 6] = [
     (0, 0),
     (22, 1),
@@ -528,7 +530,7 @@ pub static FAILING_PLACES: [(usize, usize); 6] = [
     (113, 8),
 ];
 
-/// A byte of the rows of an image in which file 0 has the words 0, 1 and 2, what it is changed to, and how a run ends then.
+/// A byte of the rows of an image in which file 0 has the words 0, 1 and 2, the value that it is changed to, and how a run then ends.
 pub static ROWS: [(usize, u8, Status); 8] = [
     (0, 1, Status::DONE),
     (0, 0, Status::Opening(OpenFault::Damaged(Spot::Row(0)))),
@@ -536,7 +538,7 @@ pub static ROWS: [(usize, u8, Status); 8] = [
     (8, 0, Status::Opening(OpenFault::Damaged(Spot::Row(1)))),
     (24, 1, Status::Opening(OpenFault::Damaged(Spot::Row(3)))),
     (511, 128, Status::Opening(OpenFault::Damaged(Spot::Row(63)))),
-    // Behind the last row.
+    // After the last row.
     (512, 1, Status::Opening(OpenFault::Damaged(Spot::Row(64)))),
     (
         4_095,

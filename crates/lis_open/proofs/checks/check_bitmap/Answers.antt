@@ -6,7 +6,7 @@ use Rattle.lis_open.proofs.checks.check_bitmap.Goals as goal
 use Rattle.std.proofs.Common.{arith}
 use Rattle.lis_kept.proofs.Image.{same_homes, same_blocks}
 
--- a block that is read where nothing is staged
+-- a block that is read, if nothing is staged
 block_read : (staged : List HomeBlock) (kept : ℕ → List ℕ) (n m : ℕ) (bytes : List ℕ) → staged ≡ [] → n ≡ m → bytes ≡ look staged n (kept n) → bytes ≡ kept m
 block_read staged kept n m bytes none same read = read ∙ (ap (λ es. look es n (kept n)) none ∙ ap kept same)
 

@@ -4,7 +4,7 @@ use Rattle.lis_words.specs.Words.{has_word}
 use Rattle.lis_model.specs.State.{State, File, description}
 use Rattle.lis_plain.proofs.room.is_described.Goals as goal
 
--- an element that fails the test is passed over
+-- an element that fails the test is skipped
 passed_over : {X : Type 0} (p : X → Bool) (xs : List X) (i j : ℕ) (d : X) → j ≡ suc i → i < length xs → p (get_or xs i d) ≡ false
     → list_any p (drop j xs) ≡ list_any p (drop i xs)
 passed_over p [] i j d next within fails = absurd (omega (arith, within))

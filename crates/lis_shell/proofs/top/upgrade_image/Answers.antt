@@ -16,7 +16,7 @@ use Rattle.lis_shell.proofs.Refused.{IsOpening, not_begun, refused_unwritten, sa
 use Rattle.lis_shell.proofs.Opened.{work_done, opened_past}
 use Rattle.lis_shell.proofs.top.upgrade_image.Goals as goal
 
--- the moments with nothing unsynced at entry
+-- the moments if nothing is unsynced at the start
 settled_moments : {old new : Meaning} (state : State) → Stands old.bytes state → IsSettled old old.bytes → Leaves old new (λ image. old.images image ⊎ UpgradeMoment state image)
     → Leaves old new (UpgradeMoment state)
 settled_moments {old} state stands settled moments = leaves_weaken (UpgradeMoment state) moments by
@@ -25,7 +25,7 @@ settled_moments {old} state stands settled moments = leaves_weaken (UpgradeMomen
     by image (inl there) = inl (subst (λ xs. Stands xs state) (sym (settled.only image there)) stands)
     by image (inr stood) = stood
 
--- where nothing was done the disk did not fail
+-- if nothing was done, the disk did not fail
 undone_other : (fault : OpenFault) → IsTrue (upgrading.undone (Opening fault)) → fault ≡ DiskFault → ⊥
 undone_other DiskFault is same = absurd (cc)
 undone_other fault is same = absurd (cc)

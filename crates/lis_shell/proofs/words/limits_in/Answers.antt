@@ -4,7 +4,7 @@ use Rattle.std.specs.String.{string_bytes}
 use Rattle.lis_shell.specs.Words.{limits_in}
 use Rattle.lis_shell.proofs.words.limits_in.Goals as goal
 
--- as many words as no limits have
+-- words of another number than three limits have
 no_limits : (words : List (List ℕ)) → (length words ≡ 3 → ⊥) → (length words ≡ 4 → ⊥) → limits_in words ≡ None
 no_limits (a ∷ b ∷ c ∷ []) three four = absurd (three refl)
 no_limits (a ∷ b ∷ c ∷ d ∷ []) three four = absurd (four refl)

@@ -3,7 +3,7 @@ use Rattle.std.proofs.lemmas.Grind.{common_steps}
 use Rattle.lis_open.proofs.Common.{◌≡◌, ℕ, ◌+◌, ◌*◌, ◌/◌, ◌<◌, ◌≤◌, length, arith}
 use Rattle.lis_open.proofs.blocks.LastBlock.read_slot.Goals as goal
 
--- a slot lies within its block
+-- a slot is within its block
 slot_within : (w k : ℕ) → 0 < w → 4096 % w ≡ 0 → w * (k % (4096 / w)) + w ≤ 4096
 slot_within w k wide divides = grind (arith, common_steps)
 
