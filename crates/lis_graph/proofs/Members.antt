@@ -14,7 +14,7 @@ Among [] x = ⊥
 Among (y ∷ ys) x = (y ≡ x) ⊎ Among ys x
 
 module _ {K : Type 0} where
-  -- ---- the two words
+  -- ---- `Among` and `Contains`
   pub among_from_contains : (xs : List K) (x : K) → Contains xs x → Among xs x
   among_from_contains [] x h = absurd (omega (arith, h.1))
   among_from_contains (y ∷ ys) x h = by h.0 h.1 h.2 (among_from_contains ys x)

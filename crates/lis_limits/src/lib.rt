@@ -10,13 +10,13 @@ pub const BLOCK_BITS: u32 = 32_768;
 /// Gates of the journal, a byte each.
 pub const GATES: u32 = 64;
 
-/// Blocks that hold the journal's record.
+/// Blocks that hold the journal's records.
 pub const RECORD_BLOCKS: u32 = 576;
 
-/// The most blocks that wait at once for one commit.
+/// The most blocks that can be staged for one commit.
 pub const MAX_STAGED: u32 = 575;
 
-/// The most blocks that one change writes at once to where they stay: the blocks of a file's content and their index.
+/// The most blocks that one change places, that is, writes straight to their homes: the blocks of a file's content and their index.
 pub const MAX_PLACED: u32 = 257;
 
 /// The first block of the properties.
@@ -67,10 +67,10 @@ pub const NUMBERS: u32 = 65_536;
 /// The most words that a file has: its own, those derived from it and the tests that it meets, and all that these entail.
 pub const MAX_DESCRIPTION: usize = 128;
 
-/// The most nodes of a working directory.
+/// The most nodes of a place.
 pub const MAX_NODES: usize = 64;
 
-/// The most bytes of a working directory, as it is printed.
+/// The most bytes of a place, as it is printed.
 pub const MAX_FORMULA: usize = 1_024;
 
 /// The most bytes of a line, without its line feed.

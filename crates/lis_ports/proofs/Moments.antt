@@ -30,7 +30,7 @@ adds_then ab bc = record {
   keeps = λ t image bytes le had. bc.keeps t image bytes (omega (arith, le, ab.later)) (ab.keeps t image bytes le had);
 }
 
--- each moment since then is one of then, or it has P
+-- each moment since the start of a run is one of its start, or it has P
 pub each_moment : {a b : Meaning} {P : List ℕ → List ℕ → Type 0} → Adds a b P → ((image bytes : List ℕ) → a.moments a.clock image bytes → Now a image bytes) → (image bytes : List ℕ) → b.moments a.clock image bytes → Now a image bytes ⊎ P image bytes
 each_moment {a} ab only_now image bytes had =
     either (ab.only a.clock image bytes (omega arith) had) (λ h. inl (only_now image bytes h)) (λ p. inr p)
