@@ -36,7 +36,7 @@ struct Reading<'a> {
     stage: Stage,
     /// The identifier that may turn out to be defined.
     name: &'a [u8],
-    /// The words that are right if it is defined. None as long as they are those noted so far, and its own.
+    /// The words that are right if it is defined. None as long as they are those noted so far, and then its own word.
     early: Option<Derived>,
 }
 
@@ -75,7 +75,7 @@ fn depth_after(opening: u8, closing: u8, depth: usize, kind: Kind) -> usize
     depth
 }
 
-/// The stage behind a token, by the depth of parentheses behind it.
+/// The stage after a token, by the depth of parentheses after it.
 fn stage_after(stage: Stage, parens: usize, kind: Kind) -> Stage
     ensures { result ≡ stage_after stage parens kind }
 {
@@ -111,7 +111,7 @@ impl<'a> Reading<'a> {
         !is_keyword(text)
     }
 
-    /// Makes the words those that are right if the identifier is defined.
+    /// Replaces the words by those that are right if the identifier is defined.
     fn accept(&mut self, out: &mut Derived)
         ensures words { out.new ≡ with_name out.old (front is_name_byte (joined self.old.name.now)) self.old.early }
         ensures rest { self.new ≡ record self.old { early = None } }

@@ -12,7 +12,6 @@ is_source suffix = is_suffix (codes "c") suffix || is_suffix (codes "h") suffix
 
 -- Whether it is certain that a prefix gives all words: of a mail, if an empty line ends in it at index `seen` or later; of a C source
 -- never; of any other file always.
--- never; of any other file always.
 abbrev pub gives_by : Option (List ℕ) → List ℕ → ℕ → Bool
 gives_by suffix front seen = not (is_source suffix) && (not (is_mail suffix) || has_end_from front seen)
 

@@ -61,7 +61,7 @@ unfolding super_with
 super_joined bytes gate limits parts =
     joined 12 bytes super_start (super_numbers limits ++ gate ∷ zeros 4071) parts.start (joined 12 (drop 12 bytes) (super_numbers limits) (gate ∷ zeros 4071) parts.spelled parts.end)
 
--- the gate that is written tells the version
+-- the gate that is written gives the version
 gate_tells : (version : ℕ) → IsTrue (is_version version) → gate_version (version_gate version) ≡ version
 gate_tells version h =
     elim (or_cases (version == 1) (version == 2) h) [
@@ -91,7 +91,7 @@ spelling_length limits bytes is = ap length is.spelled ∙ length_super is.gate 
 abbrev pub with_version : ℕ → Limits → Limits
 with_version version limits = limits_of version limits.files limits.props limits.blocks
 
--- with another byte 24, a spelling is one of the same limits in the version that this byte tells
+-- with another byte 24, a spelling is one of the same limits in the version of this byte
 pub super_regated : (gate : ℕ) (limits : Limits) (bytes : List ℕ) → SpellsSuper limits bytes → SpellsSuper (with_version (gate_version gate) limits) (take 24 bytes ++ (gate ∷ drop 25 bytes))
 unfolding super_with
 super_regated gate limits bytes is = record { gate = gate; tells = refl; spelled = ap (λ xs. take 24 xs ++ (gate ∷ drop 25 xs)) is.spelled }
