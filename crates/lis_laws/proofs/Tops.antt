@@ -29,7 +29,7 @@ module _ {A : Type 0} (above : A → A → Bool) (irreflexive : (a : A) → abov
       by : (x ≡ t.top) ⊎ (above x t.top ≡ true) → Top (x ∷ xs) p
       by way = record { top = t.top; from = inr (reached way); none = ap (λ b. b || list_any (above t.top) xs) (not_back way) ∙ t.none }
 
-  -- p has x not above it, and then what stands at or above p has not either
+  -- x is not above p, and so not above what is at or above p
   passed : (x : A) (xs : List A) (p : A) → above p x ≡ false → Top xs p → Top (x ∷ xs) p
   passed x xs p e t = record { top = t.top; from = t.from; none = ap (λ b. b || list_any (above t.top) xs) (still t.from) ∙ t.none }
     where
