@@ -1,4 +1,4 @@
--- The lines of `axiom` add all axioms of a state, in their order, where its words and files are there.
+-- The lines of `axiom` add all axioms of a state, in their order, if its words and files are there.
 use Rattle.std.proofs.Common.{◌≡◌, ℕ, ◌+◌, ◌≤◌, true, false, not, ◌&&◌, List, [], ◌∷◌, ◌++◌, length, map, refl, sym, ap, subst, ◌∙◌, inl, inr, append_assoc, append-nil, length-append, arith}
 use Rattle.std.proofs.lemmas.Bool.{and_parts, and_from, false_from_ne_true, not_from_true, ltb-true}
 use Rattle.lis_graph.specs.Graph.{is_rising}

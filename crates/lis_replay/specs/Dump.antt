@@ -27,7 +27,7 @@ mkdir_line word = words_line (codes "mkdir" ∷ word ∷ [])
 abbrev pub add_lines : File → List ℕ
 add_lines file = words_line (codes "add" ∷ file.name ∷ decimal (length file.bytes) ∷ first_words file) ++ line file.bytes
 
--- the file's name, and the words as a path; no line where there are none
+-- the file's name, and the words as a path; no line if there are none
 abbrev pub mv_lines : List ℕ → List (List ℕ) → List ℕ
 mv_lines name [] = []
 mv_lines name (word ∷ words) = words_line (codes "mv" ∷ name ∷ joined_with 47 (word ∷ words) ∷ [])
