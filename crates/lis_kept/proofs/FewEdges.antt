@@ -1,4 +1,4 @@
--- The edges are few: each word has at most one edge of its own, to its head or to the next weaker test, and each axiom has one.
+-- The edges are few: each word has at most one own edge, to its head or to the next weaker test, and each axiom has one.
 use Rattle.std.proofs.Common.{arith, filter, length-append}
 use Rattle.lis_kept.proofs.Common.{rules, ◌≡◌, ◌⊎◌, inl, inr, refl, sym, ap, ◌∙◌, subst, ℕ, zero, suc, ◌+◌, ◌-◌, ◌*◌, ◌<◌, ◌≤◌, ◌==◌, ◌&&◌, ◌||◌, not, cond, Bool, true, false, Option, Some, None, is_some, List, [], ◌∷◌, ◌++◌, length, map, count_by, Among, among_filter, filter_among, map_among, among_right, or_cases, and_parts, and_from, both_ways, not-true, false_from_ne_true, same_Some, length-map, Dict, IsDict, word_of, number_of, number_from_word, AxiomSlot, FreeAxiom, Pair, Taxonomy, has_edge, without_edge, same_word, same_word_decides, is_valued, head_bytes, is_test, slice_get, sum_by-cons}
 use Rattle.std.proofs.lemmas.Bool.{cases_Bool, eq-eqb}
@@ -48,7 +48,7 @@ listed : (edges : List (ℕ × ℕ)) (t : Taxonomy) → ((p q : ℕ) → has_edg
 listed [] t all = omega (arith, no_edges t (λ p q. false_from_ne_true (has_edge t p q) (λ h. all p q h)))
 listed (e ∷ edges) t all = one_fewer e t (length edges) (listed edges (without_edge t e.0 e.1) (others_listed e edges t all)) (cases_Bool (set.contains t.edges e))
 
--- ---- the edge that a number has of its own
+-- ---- the own edge of a number
 abbrev first_or_none : List ℕ → ℕ
 first_or_none [] = 0
 first_or_none (n ∷ ns) = n
