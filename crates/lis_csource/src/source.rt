@@ -211,11 +211,10 @@ impl<'a> Reading<'a> {
     }
 }
 
-/// Notes the words of a source in order: of each include the last part of its path, of each function that is defined
-/// outside braces and parentheses its name. The source is the bytes of a file as they are; it is read once, from front to
-/// end, and no byte of it is kept. Block comments do not nest, `//` runs to the end of its line, a backslash before a line
-/// end joins lines before comments are seen, a backslash escapes in literals, and includes are written with `<x>` or `"x"`,
-/// as in C; which words a source gives is this project's own.
+/// Notes the words of a source in order: for each include the last part of its path, and for each function that is defined outside braces
+/// and parentheses its name. The source is the bytes of a file as they are; it is read once, from start to end, and no byte of it is kept.
+/// Block comments do not nest, `//` runs to the end of its line, a backslash before a line end joins lines before comments are seen, a
+/// backslash escapes in literals, and includes are written with `<x>` or `"x"`, as in C; which words a source gives is this project's own.
 pub fn source_props(bytes: &[u8], out: &mut Derived)
     ensures { out.new ≡ noted_all out.old (source_words bytes.now) }
 {

@@ -89,7 +89,7 @@ any_counted f (x ∷ xs) = rw (sum_by-cons (λ y. cond (f y) 1 0) x xs) (by (f x
     by true rest = lt-ltb 0 (1 + count_by f xs) (omega arith)
     by false rest = let same : 0 + count_by f xs ≡ count_by f xs = omega arith in rw same rest
 
--- ---- a file's set becomes a new one
+-- ---- a file's set is replaced
 pub each_set : (P : List ℕ → Type 0) (sets : List (List ℕ)) (file : ℕ) (new : List ℕ) → ((i : ℕ) → i < length sets → P (get_or sets i [])) → P new → (i : ℕ) → i < length sets → P (get_or (set sets file new) i [])
 each_set P sets file new each fresh i lt = by (cases_eq i file)
   where

@@ -184,7 +184,7 @@ reads_complete _ _ _ (from_root text fs p) = root_complete text fs (path_complet
 some_pair : (a b : Bool × List Formula) → Some a ≡ Some b → (a.0 ≡ b.0) × (a.1 ≡ b.1)
 some_pair a b h = let e : a ≡ b = cc in (ap (λ p. p.0) e, ap (λ p. p.1) e)
 
--- a text has one reading at most
+-- a text has at most one reading
 pub one_reading : (text : List ℕ) (rooted also : Bool) (fs gs : List Formula) → Reads text rooted fs → Reads text also gs → (rooted ≡ also) × (fs ≡ gs)
 one_reading text rooted also fs gs r s =
     some_pair (rooted, fs) (also, gs) (sym (reads_complete text rooted fs r) ∙ reads_complete text also gs s)

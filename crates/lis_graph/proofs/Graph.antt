@@ -249,7 +249,7 @@ module _ {K : Type 0} (eq : K → K → Bool) (cmp : K → K → Ordering) (own 
   no_ties edges none p q there back =
       up_antisym edges (is_acyclic_from edges none) p q (up_from_chain edges there.0 p q there.1) (up_from_chain edges back.0 q p back.1)
 
-  -- one more edge makes no circle exactly where its right side does not entail its left one
+  -- one more edge makes no cycle if its right side does not entail its left one
   pub acyclic_cons : (edge : K × K) (edges : List (K × K)) → Acyclic own edges → (Entails own edges edge.1 edge.0 → ⊥) → Acyclic own (edge ∷ edges)
   acyclic_cons edge edges none open_end = acyclic_from (edge ∷ edges) (by (has eq (up eq cmp own edges edge.1) edge.0) refl (is_acyclic_from edges none))
     where

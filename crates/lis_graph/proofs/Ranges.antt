@@ -1,4 +1,4 @@
--- Numbers in a row, and those of them that pass a test.
+-- Consecutive numbers, and those of them that pass a test.
 use Rattle.std.proofs.Common.{◌≡◌, refl, ◌⊎◌, ℕ, zero, suc, ◌+◌, ◌<◌, ◌≤◌, Bool, true, false, ◌||◌, List, [], ◌∷◌, length, filter, cond, inl, inr, arith}
 use Rattle.std.specs.declared.cmp.Ordering.TheVariants.{Less}
 use Rattle.std.specs.List.{range_with_len, AllByRecursion}

@@ -11,7 +11,7 @@ use Rattle.lis_eval.specs.View.{Placed, Seen, file_in}
 abbrev pub found_files : Seen → Rows → List Entry
 found_files v found = map (λ (f : Placed). f.entry) (filter (λ (f : Placed). get found 0 f.slot) v.files)
 
--- the row has slots of files alone
+-- the row has only slots of files
 pub record Finds (v : Seen) (found : Rows) : Type 0 where
   pub shape : HasShape found 65 v.limits.files
   pub none : (slot : ℕ) → slot < v.limits.files → file_in v slot ≡ None → get found 0 slot ≡ false

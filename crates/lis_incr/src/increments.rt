@@ -1,4 +1,4 @@
-//! Which of the words marked entail no other of them.
+//! Which of the marked words entail no other marked word.
 
 ghost use Rattle.std.specs.Prelude.{◌≡◌, ℕ, ◌<◌, ◌==◌, ◌&&◌, ◌||◌, Bool, List};
 ghost use Rattle.std.specs.List.{Contains};

@@ -40,7 +40,7 @@ fits_stand journal {m} {kept} none fits = record {
   leaves = λ image is. stands_full journal.layout kept image (subst (λ placed. StandsBut journal.layout placed kept image) none (fits_but journal fits image is));
 }
 
--- where nothing is staged and no record is open, a block that is kept is the block as it reads
+-- a block as it reads, with its latest content in the open records over it, is what is kept of it
 pub fits_reads : (journal : Held) {m : Meaning} {kept : ℕ → List ℕ} → Fits journal m kept → (n : ℕ) → IsOutside journal.layout n → look journal.records.latest n (block n m.bytes) ≡ kept n
 fits_reads journal fits n out = fits.reads.holds.same n out refl
 

@@ -125,7 +125,7 @@ records_same layout b (suc n) old new same =
       ends = ap (λ e. behind e n new) ends ∙ rest.ends;
     }
 
--- ---- one record more
+-- ---- one more record
 pub behind-more : (b n : ℕ) (image : List ℕ) → behind b (suc n) image ≡ record_end (behind b n image) image
 behind-more b zero image = refl
 behind-more b (suc n) image = behind-more (record_end b image) n image

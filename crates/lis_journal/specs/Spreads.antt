@@ -24,7 +24,7 @@ abbrev pub IsClear : List HomeBlock → ℕ → ℕ → Type 0
 IsClear [] at n = Unit {0}
 IsClear (e ∷ entries) at n = ((at + n ≤ BLOCK_LEN * e.home) ⊎ (BLOCK_LEN * e.home + BLOCK_LEN ≤ at)) × IsClear entries at n
 
--- the same bytes wherever it is clear of the blocks of these entries
+-- the same bytes in each range that is clear of the blocks of these entries
 pub record Touched (entries : List HomeBlock) (old new : List ℕ) : Type 0 where
   pub len : length new ≡ length old
   pub clear : (at n : ℕ) → IsClear entries at n → part at n new ≡ part at n old

@@ -199,7 +199,7 @@ link_refused p t held left right may x y fault r is present cycle absent lefts r
 pub both_sides : (left right x y : ℕ) → are_both left right x y ≡ true → (left ≡ x) × (right ≡ y)
 both_sides left right x y is = let parts = and_parts (left == x) (right == y) is in (eqb-true left x parts.0, eqb-true right y parts.1)
 
--- a test of all that passes where one passed is a test without it
+-- if at most one of `b` and `f` holds, `f` is what is left of both without `b`
 without_one : (b f g : Bool) → g ≡ (b || f) → (b ≡ true → f ≡ false) → f ≡ (not b && g)
 without_one b f g h1 h2 = search (rules)
 

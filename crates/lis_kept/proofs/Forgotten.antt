@@ -88,7 +88,7 @@ may_still test most p q went but valued n is go = search (rules, may_go, lone_st
 both : {f g : ℕ → Bool} {a b : ℕ} {p q r : Metadata} → ForgetsWhere f a p q → ForgetsWhere g b q r → ForgetsWhere (λ n. f n || g n) (a + b) p r
 both {f = f} {g = g} {p = p} {r = r} first second = search (rules, same_word_then)
 
--- another test, that answers the same at each known word
+-- another test, that gives the same for each known word
 retest : {f : ℕ → Bool} {a : ℕ} {p q : Metadata} (g : ℕ → Bool) (b : ℕ) → ForgetsWhere f a p q → ((n : ℕ) → is_some (word_of p.dict n) ≡ true → f n ≡ g n) → a ≤ b → ForgetsWhere g b p q
 retest {f = f} {p = p} g b went same le = search (rules)
 

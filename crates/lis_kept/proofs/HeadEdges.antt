@@ -78,7 +78,7 @@ other_edges_without t n o x y differ = search (rules, has_edge-without_edge, ne_
 pub first_edge : (t : Taxonomy) (n : ℕ) (o : Option ℕ) (y : ℕ) → has_edge t n y ≡ false → has_edge (with_edge_to t n o) n y ≡ is_at o y
 first_edge t n o y none = search (rules, has_edge-with_edge, eq-eqb, or-false, swapped)
 
--- and one that had this one alone has none without it
+-- and one that had only this one has none without it
 pub last_edge : (t : Taxonomy) (n : ℕ) (o : Option ℕ) (y : ℕ) → has_edge t n y ≡ is_at o y → has_edge (without_edge_to t n o) n y ≡ false
 last_edge t n o y only = search (rules, has_edge-without_edge, eq-eqb, swapped)
 

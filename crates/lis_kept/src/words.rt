@@ -210,7 +210,7 @@ impl Metadata {
         number
     }
 
-    // Forgets the word of a number that may go, if it has one.
+    // Forgets the word of a number, if it has one. The word may be forgotten.
     fn forget(&mut self, number: u16)
         requires { IsSome (word_of self.old.dict number) → MayGo number self.old }
         ensures forgets { ForgetsWhere (λ n. number == n) 1 self.old self.new }
@@ -231,7 +231,7 @@ impl Metadata {
         ensures forgets { Forgets numbers.now self.old self.new }
         ensures sound { AreSound self.new }
     {
-        // The head of a known word keeps its number, so valued words go before heads.
+        // The head of a known word keeps its number, so valued words are forgotten before heads.
         self.forget_due(numbers, true, None);
         self.forget_due(numbers, false, None);
     }

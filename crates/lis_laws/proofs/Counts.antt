@@ -1,4 +1,4 @@
--- Tests of all members, rising lists and counts, when members come and go.
+-- Tests of all members, rising lists and counts, when members are added and removed.
 use Rattle.std.proofs.Common.{◌≡◌, ◌⊎◌, ℕ, ◌+◌, ◌≤◌, Bool, true, false, cond, List, [], ◌∷◌, length, map, filter, refl, sym, ap, ◌∙◌, inl, inr, arith}
 use Rattle.std.specs.Prelude.{sum}
 use Rattle.std.specs.declared.cmp.Ordering.{Ordering}

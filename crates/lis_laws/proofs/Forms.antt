@@ -92,7 +92,7 @@ under_all test word axioms words old new e m = by (among_under word axioms words
     by (inl there) = old e there
     by (inr found) = subst (λ (k : List ℕ × List ℕ). test k ≡ true) found.2 (new found.0 found.1)
 
--- from a right side only right sides are reached, and the word is none
+-- from a right side only right sides are reached, and the word is not one
 under_acyclic : (s : State) (word : List ℕ) → is_right s word ≡ false → (axioms : Pairs) (words : List (List ℕ)) → ((e : List ℕ × List ℕ) → Among axioms e → is_right s e.1 ≡ true)
     → ((q : List ℕ) → Among words q → is_right s q ≡ true) → Acyclic s.declared axioms → Acyclic s.declared (under word axioms words)
 under_acyclic s word new axioms [] rights over none = none

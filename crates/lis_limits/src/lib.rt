@@ -82,7 +82,7 @@ pub const MAX_PAYLOAD: u32 = 1_048_576;
 /// The most bytes of an edited view.
 pub const MAX_VIEW: u32 = 8_388_608;
 
-/// The most words that a file is given.
+/// The most words that are assigned to a file.
 pub const MAX_ASSIGNED: usize = 16;
 
 /// The most words that are derived from one file.

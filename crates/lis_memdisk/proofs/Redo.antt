@@ -19,7 +19,7 @@ pub record Redoing (start given shown : List ℕ) (events : List Event) (call : 
   pub stored : IsTrue (all_stored (length given) (length shown) rest)
   pub within : IsTrue (list_all (λ c. is_within (length start) c.deed) (changes_of given shown rest))
 
--- one event of it
+-- one event of the record
 pub record Turn (start given shown : List ℕ) (events : List Event) (call : ℕ) (rest : List Event) (e : Event) (state : Medium) : Type 0 where
   pub on : had_happened call (change_of given shown e) ≡ true → Redoing start given shown events call rest (after state (deed_of given shown e.kind))
   pub stop : had_happened call (change_of given shown e) ≡ false → state ≡ state_at (fresh start) call (changes_of given shown events)

@@ -59,7 +59,7 @@ stored-push g g' s s' events e le_g le_s stored has =
     list_all-append (λ e. has_bytes g' s' e.kind) events (e ∷ [])
     ∙ and_from (all_stored g' s' events) (has_bytes g' s' e.kind && true) (stored-more g g' s s' events le_g le_s stored) (and_from (has_bytes g' s' e.kind) true has refl)
 
--- A write is noted, with its bytes after those that were given.
+-- A write is noted, with its bytes after those of earlier writes.
 pub noted_write : (given shown given' bytes : List ℕ) (events events' : List Event) (calls shows place from : ℕ) → IsTrue (all_stored (length given) (length shown) events) → given' ≡ given ++ bytes → from ≡ length given → events' ≡ events ++ record { calls = calls; shows = shows; kind = Write place (record { from = from; len = length bytes }) } ∷ [] → changes_of given' shown events' ≡ changes_of given shown events ++ record { calls = calls; shows = shows; deed = Writes place bytes } ∷ []
 noted_write given shown given' bytes events events' calls shows place from stored is_given is_from is_events =
     ap (λ gs. changes_of gs shown events') is_given

@@ -84,7 +84,7 @@ whole_of s sound = subst (λ n. IsWhole n (now_of s)) (whole_start s sound)
 some_same : (xs ys : List ℕ) → Some xs ≡ Some ys → xs ≡ ys
 some_same xs ys e = ap (λ o. unwrap_or o []) e
 
--- what is sound, if a record is kept
+-- if a record is kept, it is sound
 abbrev pub Sound : Seen → Type 0
 Sound s = IsTrue s.is_kept → IsSoundSeen s
 

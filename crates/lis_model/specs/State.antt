@@ -16,7 +16,7 @@ use Rattle.lis_model.specs.Tests.{weaker_tests, met_tests}
 pub record File : Type 0 where
   pub name : List ℕ
   pub bytes : List ℕ
-  -- the words that the user gave it, a set
+  -- the words that were assigned to it, a set
   pub assigned : List (List ℕ)
 
 pub record State : Type 0 where

@@ -12,14 +12,14 @@ ends_none m = record { shows = refl; ends = omega arith }
 pub ends_call : {T E : Type 0} {a b : Meaning} {result : Result T E} → IsDiskCall a b result → DiskFaultEnds a b
 ends_call call = record { shows = call.run.show_faults; ends = omega (arith, call.began) }
 
--- two runs in a row, of which the first met no fault
+-- two runs in sequence, of which the first met no fault
 pub ends_then : {a b c : Meaning} → DiskFaultEnds a b → b.disk_faults ≡ a.disk_faults → DiskFaultEnds b c → DiskFaultEnds a c
 ends_then ab stays bc = record {
   shows = bc.shows ∙ ab.shows;
   ends = omega (arith, ab.ends, ab.shows, stays, bc.ends);
 }
 
--- the same of all that a run keeps
+-- the same of all that holds of a run
 pub uses_none : {T E : Type 0} (m : Meaning) (done : T) → UsesDisk {T = T} {E = E} m m (Ok done)
 uses_none m done = record {
   run = run_none m;

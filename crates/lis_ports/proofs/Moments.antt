@@ -1,4 +1,4 @@
--- How moments of calls and runs in a row add up.
+-- How moments of calls and runs in sequence add up.
 use Rattle.std.proofs.Common.{◌⊎◌, ℕ, List, refl, sym, ◌∙◌, inl, inr, arith}
 use Rattle.lis_ports.specs.Meaning.{Meaning, Now}
 use Rattle.lis_ports.specs.Runs.{Adds, IsDiskRun, Leaves}
@@ -21,7 +21,7 @@ adds_weaken R ab weaker = record {
   keeps = ab.keeps;
 }
 
--- two runs in a row
+-- two runs in sequence
 pub adds_then : {a b c : Meaning} {P : List ℕ → List ℕ → Type 0} → Adds a b P → Adds b c P → Adds a c P
 adds_then ab bc = record {
   later = omega (arith, ab.later, bc.later);
@@ -73,7 +73,7 @@ leaves_weaken Q ab weaker = record {
   adds = adds_weaken _ ab.adds (λ image bytes p. (weaker image p.0, p.1));
 }
 
--- two runs in a row
+-- two runs in sequence
 pub leaves_then : {a b c : Meaning} {Q : List ℕ → Type 0} → Leaves a b Q → Leaves b c Q → Leaves a c Q
 leaves_then ab bc = record {
   run = run_then ab.run bc.run;

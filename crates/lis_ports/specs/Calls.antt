@@ -39,7 +39,7 @@ pub record DiskFaultEnds (old new : Meaning) : Type 0 where
   pub shows : new.show_faults ≡ old.show_faults
   pub ends : StationFaultEnds old new
 
--- what a run of disk calls keeps when it ends with one result: it fails only if a call failed, and that call was the last
+-- what holds of a run of disk calls that ends with one result: it fails only if a call failed, and that call was the last
 pub record UsesDisk {T E : Type 0} (old new : Meaning) (result : Result T E) : Type 0 where
   pub run : IsDiskRun old new
   pub cause : HasCause old.disk_faults new.disk_faults result
@@ -60,7 +60,7 @@ pub record OnlyReads (old new : Meaning) : Type 0 where
   pub same : IsTrue old.is_honest → IsUnchanged old new
   pub moments : IsTrue old.is_honest → Leaves old new old.images
 
--- what such a run keeps when it ends with one result
+-- what holds of such a run that ends with one result
 pub record ReadsDisk {T E : Type 0} (old new : Meaning) (result : Result T E) : Type 0 where
   pub reads : OnlyReads old new
   pub cause : HasCause old.disk_faults new.disk_faults result
@@ -72,7 +72,7 @@ pub record IsTorn (at n : ℕ) (old new : Meaning) : Type 0 where
   pub only : (image : List ℕ) → new.images image → (from : List ℕ) × old.images from × Torn at n from image
   pub grows : IsTrue old.is_recorded → (image : List ℕ) → old.images image → new.images image
 
--- After a write that succeeded: it reads as written, and a crash may leave any bytes in the range.
+-- After a write that succeeded: the disk reads as written, and a crash may leave any bytes in the range.
 pub record IsWritten (at : ℕ) (bytes : List ℕ) (old new : Meaning) : Type 0 where
   pub reads : new.bytes ≡ put old.bytes at bytes
   pub each : IsTrue old.is_recorded → (from image : List ℕ) → old.images from → Torn at (length bytes) from image → new.images image
@@ -82,7 +82,7 @@ pub record IsSynced (old new : Meaning) : Type 0 where
   pub bytes : new.bytes ≡ old.bytes
   pub images : Images new (λ image. old.images image × (image ≡ old.bytes))
 
--- After a sync that failed: the images stay, and it reads as one of them.
+-- After a sync that failed: the images stay, and the disk reads as one of them.
 pub record IsUnsynced (old new : Meaning) : Type 0 where
   pub bytes : old.images new.bytes ⊎ (new.bytes ≡ old.bytes)
   pub images : Images new old.images

@@ -77,7 +77,7 @@ pub fn read_word(bytes: &[u8]) -> Option<Word>
     Some(Word { held })
 }
 
-/// Reads a word that a formula may have. None exactly if the bytes are no such word: a test is none.
+/// Reads a word that a formula may have. None exactly if the bytes are no such word: a test is not one.
 pub fn read_formula_word(bytes: &[u8]) -> Option<Word>
     ensures word { IsSome result ↔ IsTrue (is_word bytes.now) }
     ensures same { IfSome result (λ word. word ≡ bytes.now) }
