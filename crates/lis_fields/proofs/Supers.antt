@@ -100,7 +100,8 @@ super_regated gate limits bytes is = record { gate = gate; tells = refl; spelled
 pub super_upgraded : (limits : Limits) (bytes : List ℕ) → SpellsSuper limits bytes → SpellsSuper (with_version 2 limits) (take 24 bytes ++ (2 ∷ drop 25 bytes))
 super_upgraded limits bytes is = super_regated 2 limits bytes is
 
--- what differs from a spelling of version 1 in byte 24 alone, which may be anything, is a spelling of the same limits, or of these in version 2
+-- what differs from a spelling of version 1 only in byte 24, which may be anything, is a spelling of the same limits, or of these in
+-- version 2
 pub super_torn : (limits : Limits) (old new : List ℕ) → limits.version ≡ 1 → SpellsSuper limits old → length new ≡ length old → take 24 new ≡ take 24 old → drop 25 new ≡ drop 25 old
     → SpellsSuper limits new ⊎ SpellsSuper (with_version 2 limits) new
 super_torn limits old new one is len front behind = by (gate == 2) (subst (λ xs. SpellsSuper (with_version (gate_version gate) limits) xs) (sym whole) (super_regated gate limits old is))

@@ -1,4 +1,5 @@
--- The members of lists: `Among` goes by cases, and `Contains` by an index. A name `among_F` takes a member of F apart, and `F_among` makes one.
+-- The members of lists: `Among` is by cases, and `Contains` by an index. A lemma `among_F` says what a member of F is, and `F_among` makes
+-- one.
 use Rattle.std.proofs.Common.{◌≡◌, ◌⊎◌, ℕ, zero, suc, ◌<◌, Bool, true, false, cond, ◌||◌, List, [], ◌∷◌, ◌++◌, length, get_or, map, filter, Decides, refl, sym, ap, subst, ◌∙◌, inl, inr, arith}
 use Rattle.std.specs.declared.cmp.Ordering.{Ordering}
 use Rattle.std.specs.declared.cmp.Ordering.TheVariants.{Less, Equal, Greater}

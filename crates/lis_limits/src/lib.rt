@@ -67,10 +67,10 @@ pub const NUMBERS: u32 = 65_536;
 /// The most words that a file has: its own, those derived from it and the tests that it meets, and all that these entail.
 pub const MAX_DESCRIPTION: usize = 128;
 
-/// The most nodes of a place.
+/// The most nodes of a working directory.
 pub const MAX_NODES: usize = 64;
 
-/// The most bytes of a place, as it is printed.
+/// The most bytes of a working directory, as it is printed.
 pub const MAX_FORMULA: usize = 1_024;
 
 /// The most bytes of a line, without its line feed.
@@ -82,7 +82,7 @@ pub const MAX_PAYLOAD: u32 = 1_048_576;
 /// The most bytes of an edited view.
 pub const MAX_VIEW: u32 = 8_388_608;
 
-/// The most words that are assigned to a file.
+/// The most words that a file is given.
 pub const MAX_ASSIGNED: usize = 16;
 
 /// The most words that are derived from one file.

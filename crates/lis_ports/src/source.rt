@@ -63,7 +63,7 @@ impl Source for MemSource {
     }
 }
 
-/// A source over a reader, such as standard input. The bytes left are those that the reader reports, and standard input reports none.
+/// A source over a reader, such as standard input. The bytes left are those that the reader reports; standard input does not report them.
 #[derive(Drop)]
 pub struct StdSource<R: Read> {
     pub reader: R,

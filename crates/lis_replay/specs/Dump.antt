@@ -38,6 +38,7 @@ file_lines file = add_lines file ++ mv_lines file.name (other_words file)
 abbrev pub axiom_line : List ℕ × List ℕ → List ℕ
 axiom_line pair = words_line (codes "axiom" ∷ pair.0 ∷ pair.1 ∷ [])
 
--- All lists are in order in a well-formed state: words and files by their bytes and names, axioms by their left and then by their right sides.
+-- All lists are in order in a well-formed state: words and files by their bytes and names, axioms by their left and then by their right
+-- sides.
 unfoldable pub dump_of : State → List ℕ
 dump_of s = flat_map mkdir_line s.declared ++ flat_map file_lines s.files ++ flat_map axiom_line s.axioms

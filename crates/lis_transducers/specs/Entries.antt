@@ -8,7 +8,8 @@ use Rattle.lis_transducers.specs.declared.piece.Kind.TheVariants.{Blank, White, 
 use Rattle.lis_transducers.specs.declared.piece.Context.{Context}
 use Rattle.lis_transducers.specs.declared.piece.Context.TheVariants.{LineStart, Code, Hash, Include, Directive}
 
--- whether a piece counts: a path does, and each token outside directives; white space, comments and a # that begins a directive are no tokens
+-- whether a piece counts: a path does, and each token outside directives; white space, comments and a # that begins a directive are no
+-- tokens
 abbrev pub counts : Context → Kind → Bool
 counts context Blank = false
 counts context White = false
