@@ -92,7 +92,7 @@ module _ (d : Dict) (one : (m n : ℕ) (w : List ℕ) → word_of d m ≡ Some w
           let tie = are.apart zero (suc at.0) x y refl (at.1 ∙ ap Some same) in
           omega (arith, tie)
 
-  -- nor is it one of those before, which none of the others is
+  -- nor is an axiom of the others that of the first slot, or one of those before
   no_other : (acc : List (List ℕ × List ℕ)) (x y : ℕ) (axioms : List AxiomSlot) → AreApart d (Pair x y ∷ axioms) → ((e : List ℕ × List ℕ) → Among (pairs_told d (Pair x y ∷ axioms)) e → Among acc e → ⊥)
       → (l : (w : List ℕ) × (word_of d x ≡ Some w)) (r : (w : List ℕ) × (word_of d y ≡ Some w)) (e : List ℕ × List ℕ) → Among (pairs_told d axioms) e → (◌≡◌ {A = List ℕ × List ℕ} (l.0, r.0) e) ⊎ Among acc e → ⊥
   no_other acc x y axioms are new l r e = search (rules, first_apart, among_right)

@@ -23,7 +23,7 @@ use Rattle.lis_laws.proofs.Chains.{tests_by}
 use Rattle.lis_kept.proofs.InArea.{some_properties}
 use Rattle.lis_kept.proofs.Used.{headed}
 
--- ---- edges that are all in a list are no more than it has
+-- ---- if all edges are in a list, there are no more of them than the list has
 -- what is in the list without its first one
 others_listed : (e : ℕ × ℕ) (edges : List (ℕ × ℕ)) (t : Taxonomy) → ((p q : ℕ) → has_edge t p q ≡ true → Among (e ∷ edges) (p, q)) → (p q : ℕ) → has_edge (without_edge t e.0 e.1) p q ≡ true → Among edges (p, q)
 others_listed e edges t all p q h = by both.0 (all p q both.1)
@@ -89,7 +89,7 @@ module _ (d : Dict) (kept : IsDict d) (bits : List Bool) where
           cases (inr (inl to)) = absurd (left.none y right.linked to)
           cases (inr (inr from)) = absurd (right.none x left.linked from)
 
-  -- and no head
+  -- and a test with a next weaker one has no head
   no_head_and_next : (p x y : ℕ) → is_head_by (word_of d p) (word_of d x) ≡ true → is_next_test d bits p y ≡ true → ⊥
   no_head_and_next p x y h g =
       let valued = headed (word_of d p) (word_of d x) h in

@@ -27,7 +27,7 @@ use Rattle.lis_laws.proofs.Reached.{described_link}
 use Rattle.lis_laws.proofs.Touched.{one_of_name, declares_touches, brought_is_test, undeclares_touches, adds_axiom_touches, removes_axiom_touches, adds_file_touches, removes_file_touches, replaces_file_touches}
 use Rattle.lis_laws.proofs.Steps.{Replaces}
 
--- ---- what some file has is few
+-- ---- a file has few words
 abbrev AreFew : State → Type 0
 AreFew s = list_all (λ (file : File). nat_le (length (description s file)) 128) s.files ≡ true
 

@@ -10,7 +10,7 @@ module _ {A : Type 0} (above : A → A → Bool) (irreflexive : (a : A) → abov
     pub from : (p ≡ top) ⊎ (above p top ≡ true)
     pub none : list_any (above top) xs ≡ false
 
-  -- from an element above p, with x not above it
+  -- x is above p, and what was found for x has neither x nor any of xs above it
   joined : (x : A) (xs : List A) (p : A) → above p x ≡ true → Top xs x → Top (x ∷ xs) p
   joined x xs p up t = by t.from
     where

@@ -48,7 +48,7 @@ module _ (t : State) (formed : WellFormed t) where
   abbrev pub by_files : List File → State
   by_files files = with_these t t.declared [] files
 
-  -- the files before the next one are some of all
+  -- the next file and those before it are files of the state, with no more of them and of blocks than the state has
   pub record IsNext (front : List File) (file : File) : Type 0 where
     pub there : (f : File) → Among (file ∷ front) f → Among t.files f
     pub above : (f : File) → Among front f → file_cmp f file ≡ Less

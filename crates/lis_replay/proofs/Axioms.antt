@@ -36,7 +36,7 @@ module _ (t : State) (formed : WellFormed t) where
   abbrev by_axioms : Pairs → State
   by_axioms axioms = with_these t t.declared axioms t.files
 
-  -- the axioms before the next one are some of all
+  -- the next axiom and those before it are axioms of the state
   record IsNext (front : Pairs) (pair : List ℕ × List ℕ) : Type 0 where
     there : (e : List ℕ × List ℕ) → Among (pair ∷ front) e → Among t.axioms e
     new : Among front pair → ⊥
