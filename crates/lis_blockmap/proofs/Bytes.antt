@@ -16,7 +16,7 @@ bit_first : (b : Bool) (n : ℕ) → n + bool_byte b ≡ (if b then 1 else 0) + 
 bit_first true n = omega arith
 bit_first false n = omega arith
 
--- a bit more before the others
+-- one more bit before the others
 pub number_more : (bit : ℕ → Bool) (n i byte : ℕ) (b : Bool) → b ≡ bit n → byte ≡ bits_number i (λ j. bit (n + 1 + j)) → 2 * byte + bool_byte b ≡ bits_number (i + 1) (λ j. bit (n + j))
 unfolding bits_number
 number_more bit n i byte b is so_far =
@@ -25,7 +25,7 @@ number_more bit n i byte b is so_far =
     bit_first b (2 * byte)
     ∙ (ap₂ (λ (c : Bool) (x : ℕ). (if c then 1 else 0) + 2 * x) (is ∙ ap bit here) (so_far ∙ rest) ∙ sym (ap (λ m. bits_number m (λ j. bit (n + j))) (add-one i)))
 
--- one bit more of a byte fits
+-- one more bit of a byte fits
 pub byte_fits : (bits : ℕ → Bool) (i byte bit : ℕ) → i < 8 → byte ≡ bits_number i bits → bit ≤ 1 → 2 * byte + bit < 2 ^ 8
 byte_fits bits i byte bit lt same small =
     let few : i ≤ 7 = omega arith in
@@ -43,7 +43,7 @@ one_turned false true y z p is rest = omega arith
 one_turned true true y z p is rest = absurd cc
 one_turned false false y z p is rest = absurd cc
 
--- bits that are each turned over make the number turned over
+-- inverted bits make the inverted number
 pub turned_over : (n : ℕ) (bit turned : ℕ → Bool) → ((i : ℕ) → i < n → turned i ≡ not (bit i)) → bits_number n turned + bits_number n bit + 1 ≡ 2 ^ n
 unfolding bits_number
 turned_over zero bit turned each = refl

@@ -1,4 +1,4 @@
--- What crates above need to know of the bitmap's block: its bits are those that are told.
+-- What crates above need of the bitmap's block: its bits say which blocks are taken.
 use Rattle.std.proofs.Common.{◌≡◌, ℕ, ◌+◌, ◌*◌, ◌/◌, ◌%◌, ◌^◌, ◌<◌, Bool, List, length, get_or, ap, ap₂, ◌∙◌, arith}
 use Rattle.lis_bits.specs.Words.{word_bit}
 use Rattle.lis_bits.proofs.Numbers.{number_bit, number_is, bytes_are, byte-bits_bytes}
@@ -12,7 +12,7 @@ has_bit-bitmap_bytes taken n lt =
     ap (λ byte. word_bit byte (n % 8)) (byte-bits_bytes 4096 (is_taken taken) (n / 8) in_block)
     ∙ (number_bit 8 (λ i. is_taken taken (8 * (n / 8) + i)) (n % 8) (omega arith) ∙ ap (is_taken taken) place)
 
--- a block of bytes with all these bits
+-- a block of bytes with all these bits is the bitmap's block
 pub bitmap_from_bits : (taken : List Bool) (bytes : List ℕ) → length bytes ≡ 4096 → ((k : ℕ) → k < 4096 → get_or bytes k 0 < 2 ^ 8) → ((n : ℕ) → n < 32768 → has_bit bytes n ≡ is_taken taken n) → bytes ≡ bitmap_bytes taken
 unfolding bitmap_bytes
 bitmap_from_bits taken bytes long small same =

@@ -9,7 +9,7 @@ use Rattle.lis_blockmap.specs.Bitmap.{free_count}
 unfoldable pub taken_of : Rows → ℕ → List Bool
 taken_of rows blocks = map (λ n. not (get rows 0 n)) (range_with_len 0 blocks)
 
--- one row has the bits of so many blocks, and just the first `free` of them are true
+-- there is one row, with the bits of at least `blocks` blocks, and exactly its first `free` bits are true
 pub record HasFree (rows : Rows) (blocks free : ℕ) : Type 0 where
   pub tall : length rows.rows ≡ 1
   pub wide : blocks ≤ rows.bits

@@ -12,7 +12,7 @@ use lis_limits::{BLOCK_BITS, BLOCK_LEN, MAX_BLOCKS};
 use std::alloc::{AllocError, Global};
 use std::marker::Model;
 
-/// Which blocks are taken, by their numbers. All memory is taken by `new`.
+/// Which blocks are taken, by their numbers. All memory is allocated by `new`.
 #[derive(Drop)]
 pub struct BlockMap {
     blocks: u32,
@@ -33,7 +33,7 @@ impl Model for BlockMap {
     ghost invariant = { λ m. IsSoundMap m.rows m.blocks m.free };
 }
 
-// A bit of a block, the lowest of its first byte being the first.
+// A bit of a block. The first is the lowest of the first byte.
 fn has_bit(bytes: &[u8], n: u32) -> bool
     requires { n / 8 < length bytes.now }
     ensures { result ≡ has_bit bytes.now n }
@@ -41,7 +41,7 @@ fn has_bit(bytes: &[u8], n: u32) -> bool
     bytes[n as usize / 8] >> (n % 8) & 1 == 1
 }
 
-// A row with the bits of so many blocks, all of them free.
+// A row with the bits of `blocks` blocks, all of them free.
 fn free_row(alloc: Global, blocks: u32) -> Result<Rows, AllocError>
     requires { blocks ≤ MAX_BLOCKS }
     ensures { IfOk result (λ rows. HasFree rows blocks blocks) }
@@ -54,7 +54,7 @@ fn free_row(alloc: Global, blocks: u32) -> Result<Rows, AllocError>
 }
 
 impl BlockMap {
-    /// The bitmap of so many blocks, all of them free.
+    /// The bitmap of `blocks` blocks, all of them free.
     pub fn new(alloc: Global, blocks: u32) -> Result<BlockMap, AllocError>
         requires some { 1 ≤ blocks }
         requires few { blocks ≤ MAX_BLOCKS }
@@ -168,12 +168,12 @@ impl BlockMap {
         }
     }
 
-    // The byte that tells eight blocks, the first of them in its lowest bit.
+    // The byte for eight blocks, the first of them in its lowest bit.
     fn byte(&self, k: u32) -> u8
         requires { k < BLOCK_LEN }
         ensures { result ≡ bits_number 8 (λ i. is_taken self.now (8 * k + i)) }
     {
-        // The row tells the free ones of eight blocks at once; the last byte may have fewer blocks.
+        // The row has the free ones of eight blocks at once; the last byte may have fewer blocks.
         if 8 * k + 8 <= self.blocks {
             return !self.rows.byte(0, k);
         }

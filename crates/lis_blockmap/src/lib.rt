@@ -1,4 +1,4 @@
-//! The bitmap of data blocks: which of them are taken, how many are free, and the block that tells it.
+//! The bitmap of data blocks: which of them are taken, how many are free, and the block that says so.
 #![tactic(auto)]
 
 mod block_map;

@@ -1,4 +1,4 @@
--- What the parts of a catalog keep, with one file more and with one fewer.
+-- What the parts of a catalog keep, with one more file and with one fewer.
 use Rattle.std.proofs.Common.{◌≡◌, ◌⊎◌, ℕ, suc, ◌+◌, ◌<◌, ◌≤◌, Bool, true, false, cond, if◌then◌else◌, ◌==◌, nat_lt, List, [], ◌∷◌, length, get_or, set, filter, map, take, drop, Option, Some, None, Result, Ok, Err, MatchResult, is_some, is_none, unwrap_or, IsTrue, refl, sym, ap, subst, ◌∙◌, inl, inr, arith, eq-eqb, length-set, get_or-set_same, get_or-set_other}
 use Rattle.std.specs.List.{find, list_any, insert, remove, position, count_by, slice_get}
 use Rattle.std.specs.List.Sorted.{IsStrictlySortedBy, IsSearchInRange}
@@ -21,7 +21,7 @@ use Rattle.lis_catalog.proofs.Places.{no_file, found_name, no_name, insert_place
 use Rattle.lis_catalog.proofs.Slots.{map_none, none_any, filter_none, all_insert, all_filter, none_found, apart_insert, apart_filter, has_there, turned, is_other, slot_gone, removed}
 use Rattle.lis_catalog.proofs.Laws.{rec_at-with_filed, rec_at-without_slot, slot_is_below, slot_of-rec_at}
 
--- ---- what a search tells
+-- ---- what a search says
 module _ (c : Catalog) where
   pub named_at : (name : List ℕ) (k : ℕ) → k < length c.entries → FoundAt name k c.entries → slot_of c name ≡ slice_get (slots c) k
   named_at name k lt at =
@@ -41,7 +41,7 @@ module _ (c : Catalog) where
       let is_there = λ (f : Filed). f.slot == slot in
       ap (λ es. record c { entries = es }) (sym (filter_none is_there c.entries (none_any is_there c.entries (map_none (λ (f : Filed). f.rec) (find is_there c.entries) none))))
 
-  -- where the name is that of a slot's record
+  -- if the name is that of a slot's record
   pub place_told : (slot : ℕ) (rec : FileRecord) (found : Result ℕ ℕ) → IsCatalog c → rec_at c slot ≡ Some rec → IsSearchInRange found (length c.entries)
       → MatchResult found (λ k. FoundAt rec.name k c.entries) (λ k. PlaceFor rec.name k c.entries) → MatchResult found (λ k. slice_get (slots c) k ≡ Some slot) (λ k. ⊥)
   place_told slot rec (Ok k) is there within at = sym (named_at rec.name k within at) ∙ slot_of-rec_at c slot rec is there
@@ -70,7 +70,7 @@ module _ (records : Records) (slot : ℕ) (now : Option FileRecord) where
     counted_after : count_by is_some (set records slot now) + cond (is_some (get_or records slot None)) 1 0 ≡ count_by is_some records + cond (is_some now) 1 0
     counted_after = sum_by-set (λ (held : Option FileRecord). cond (is_some held) 1 0) records slot now None lt
 
--- ---- the order, with one slot more and with one fewer
+-- ---- the order, with one more slot and with one fewer
 module _ (v : ℕ → Filed) where
   map_insert : (order : List ℕ) (k slot : ℕ) → map v (insert order k slot) ≡ insert (map v order) k (v slot)
   map_insert order k slot = rw (take-map v k order, drop-map v k order) (map-append v (take k order) (slot ∷ drop k order))
@@ -85,7 +85,7 @@ same_test a b = by (a == b) refl
     by true e = sym (eq-eqb b a (sym (eqb-true a b e)))
     by false e = sym (turned a b e)
 
--- what a new file and its place must have
+-- what a new file and its index must have
 pub record Fits (c : Catalog) (slot k : ℕ) (rec : FileRecord) : Type 0 where
   pub place : PlaceFor rec.name k c.entries
   pub within : k ≤ length c.entries
@@ -93,7 +93,7 @@ pub record Fits (c : Catalog) (slot k : ℕ) (rec : FileRecord) : Type 0 where
   pub below : slot < c.files
   pub free : rec_at c slot ≡ None
 
--- from what is said of the catalog as it is seen, and of the name as it is held
+-- from what is stated of the catalog as a contract sees it, and of the name as it is stored
 pub fits_from : (c : Catalog) (files : ℕ) (records : Records) (order : List ℕ) (slot : ℕ) (rec : FileRecord) (name : List ℕ) (k : ℕ)
     → catalog_of files records order ≡ c → name ≡ rec.name → PlaceFor name k c.entries → k ≤ length c.entries → IsTrue (is_file_name name) → slot < c.files → rec_at c slot ≡ None
     → Fits (catalog_of files records order) slot k rec
@@ -120,7 +120,7 @@ module _ (files : ℕ) (records : Records) (order : List ℕ) (c : Catalog) (see
   pub seen_length : length c.entries ≡ length order
   seen_length = ap (λ (s : Catalog). length s.entries) (sym seen) ∙ length-map order (filed_in records)
 
--- ---- what the parts tell
+-- ---- what the parts say
 all_some : (records : Records) → list_any is_none records ≡ false → count_by is_some records ≡ length records
 all_some [] none = refl
 all_some (None ∷ rs) none = absurd cc
@@ -167,7 +167,7 @@ module _ (files room : ℕ) (records : Records) (order : List ℕ) (h : IsHeld f
     pub entry_there : (rec : FileRecord) → get_or records n None ≡ Some rec → slice_get es k ≡ Some (record { slot = n; rec = rec })
     entry_there rec is = filed_there ∙ ap (λ (held : Option FileRecord). Some (record { slot = n; rec = unwrap_or held no_record })) is
 
-  -- ---- one file more
+  -- ---- one more file
   module _ (slot k : ℕ) (rec : FileRecord) (fits : Fits c slot k rec) where
     abbrev f : Filed
     f = record { slot = slot; rec = rec }
@@ -221,7 +221,7 @@ module _ (files room : ℕ) (records : Records) (order : List ℕ) (h : IsHeld f
       counted = omega (arith, counted_more, length-insert order k slot (omega (arith, fits.within, as_long)));
     }
 
-  -- ---- one file fewer
+  -- ---- one fewer file
   module _ (slot k : ℕ) (at : slice_get order k ≡ Some slot) where
     pub in_order : k < length order
     in_order = slice_get_within order k slot at

@@ -1,4 +1,4 @@
--- What is found by a name and by a slot, with one file more and with one fewer.
+-- What is found by a name and by a slot, with one more file and with one fewer.
 use Rattle.std.proofs.Common.{◌≡◌, ℕ, ◌<◌, Bool, true, false, not, cond, if◌then◌else◌, ◌==◌, nat_lt, List, [], ◌∷◌, filter, Option, Some, None, IsSome, IsTrue, refl, sym, ap, subst, ◌∙◌}
 use Rattle.std.specs.declared.cmp.Ordering.{Ordering}
 use Rattle.std.specs.declared.cmp.Ordering.TheVariants.{Less, Equal, Greater}
@@ -21,7 +21,7 @@ use Rattle.lis_catalog.specs.Inside.{slot_list}
 use Rattle.lis_catalog.proofs.Slots.{none_any, any_none, map_none, any_filter, apart_parts, is_other, slot_gone}
 use Rattle.lis_model.specs.Sets.{are_distinct}
 
--- ---- one file more
+-- ---- one more file
 module _ (test : Filed → Bool) (f : Filed) where
   -- a test that passes at the file finds it, if it found nothing before
   find_more : (es : List Filed) → find (is_named f.rec.name) es ≡ None → (test f ≡ true → find test es ≡ None) → find test (insert_key filed_cmp es f) ≡ cond (test f) (Some f) (find test es)
@@ -62,7 +62,7 @@ rec_at-with_filed c slot rec n none free =
     ap (option_map (λ (g : Filed). g.rec)) (find_more (λ (g : Filed). g.slot == n) f c.entries absent (λ same. subst (λ m. find (λ (g : Filed). g.slot == m) c.entries ≡ None) (eqb-true slot n same) unused))
     ∙ map_cond (λ (g : Filed). g.rec) (slot == n) f (find (λ (g : Filed). g.slot == n) c.entries)
 
--- ---- one file fewer
+-- ---- one fewer file
 pub rec_at-without_slot : (c : Catalog) (slot n : ℕ) → rec_at (without_slot c slot) n ≡ (if n == slot then None else rec_at c n)
 rec_at-without_slot c slot n = by (n == slot) refl
   where

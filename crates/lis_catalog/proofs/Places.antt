@@ -1,4 +1,4 @@
--- The place of a name among files in the order of their names.
+-- The index of a name among files in the order of their names.
 use Rattle.std.proofs.Common.{◌≡◌, ℕ, zero, suc, ◌<◌, ◌≤◌, Bool, cond, List, [], ◌∷◌, length, get_or, map, Some, None, Result, Ok, Err, MatchResult, refl, sym, ap, subst, ◌∙◌, arith}
 use Rattle.std.specs.declared.cmp.Ordering.TheVariants.{Less, Equal, Greater}
 use Rattle.std.specs.Ordering.{ordering_index, match_ordering}
@@ -88,7 +88,7 @@ no_name name (suc k) (x ∷ xs) s place =
     found_later name x xs (λ e. let other = place.0 in absurd cc)
     ∙ no_name name k xs (sorted_tail filed_cmp filed_order x xs s) place.1
 
--- a file at the place of its name is a file in its order
+-- a file that is inserted at the index of its name is in order
 pub insert_place : (f : Filed) (k : ℕ) (es : List Filed) → PlaceFor f.rec.name k es → insert es k f ≡ insert_key filed_cmp es f
 insert_place f zero [] place = refl
 insert_place f (suc k) [] place = absurd place

@@ -86,7 +86,7 @@ module _ {X : Type 0} (p : X → Bool) where
   any_map v (y ∷ ys) = ap (λ b. p (v y) || b) (any_map v ys)
 
 -- ---- slots
--- the parts of what says that no slot stands twice
+-- the parts of the test that no slot occurs twice
 pub apart_parts : (x : Filed) (xs : List Filed) → are_distinct (slot_list (x ∷ xs)) ≡ true → (has_slot xs x.slot ≡ false) × (are_distinct (slot_list xs) ≡ true)
 apart_parts x xs apart =
     let parts = and_parts (not (list_any (λ m. m == x.slot) (slot_list xs))) (are_distinct (slot_list xs)) apart in

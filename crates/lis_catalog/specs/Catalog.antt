@@ -1,4 +1,4 @@
--- The files of an image as they are seen: a finite map from names to slots and records.
+-- The files of an image as a contract sees them: a finite map from names to slots and records.
 use Rattle.std.specs.Prelude.{ℕ, ◌≤◌, ◌==◌, nat_lt, not, List, length, map, filter, Option, IsTrue}
 use Rattle.std.specs.declared.cmp.Ordering.{Ordering}
 use Rattle.std.specs.BTreeSet.{insert_key}
@@ -14,7 +14,7 @@ pub record Filed : Type 0 where
   pub slot : ℕ
   pub rec : FileRecord
 
--- the files of an image that has so many slots for them
+-- the files of an image that has `files` slots for them
 pub record Catalog : Type 0 where
   pub files : ℕ
   -- in the order of the names
@@ -38,7 +38,7 @@ rec_at c slot = option_map (λ (f : Filed). f.rec) (find (λ (f : Filed). f.slot
 abbrev pub filed_cmp : Filed → Filed → Ordering
 filed_cmp a b = word_cmp a.rec.name b.rec.name
 
--- with one file more
+-- with one more file
 abbrev pub with_filed : Catalog → ℕ → FileRecord → Catalog
 with_filed c slot rec = record c { entries = insert_key filed_cmp c.entries (record { slot = slot; rec = rec }) }
 

@@ -25,14 +25,14 @@ filed_in records slot = record { slot = slot; rec = record_in records slot }
 abbrev pub catalog_of : ℕ → Records → List ℕ → Catalog
 catalog_of files records order = record { files = files; entries = map (filed_in records) order }
 
--- what the parts keep, where `room` is how many slots the order has memory for
+-- what the parts keep; `room` is how many slots the order has memory for
 pub record IsHeld (files : ℕ) (records : Records) (order : List ℕ) (room : ℕ) : Type 0 where
-  -- each slot stands once in the order, and the names rise
+  -- each slot is once in the order, and the names rise
   pub catalog : IsCatalog (catalog_of files records order)
   pub limit : files ≤ MAX_FILES
   pub has_room : files ≤ room
   pub long : length records ≡ files
-  -- just the slots in the order have a record
+  -- exactly the slots in the order have a record
   pub told : (n : ℕ) → slice_index_or records n None ≡ rec_at (catalog_of files records order) n
   pub counted : count_by is_some records ≡ length order
 
@@ -43,13 +43,13 @@ has_slot entries slot = list_any (λ (f : Filed). f.slot == slot) entries
 abbrev pub slot_list : List Filed → List ℕ
 slot_list entries = map (λ (f : Filed). f.slot) entries
 
--- the file at this place has the name, and those before it have lower names
+-- the file at this index has the name, and those before it have lower names
 abbrev pub FoundAt : List ℕ → ℕ → List Filed → Type 0
 FoundAt name n [] = ⊥
 FoundAt name zero (f ∷ fs) = word_cmp name f.rec.name ≡ Equal
 FoundAt name (suc n) (f ∷ fs) = (word_cmp name f.rec.name ≡ Greater) × FoundAt name n fs
 
--- a name that no file has belongs here
+-- a name that no file has belongs at this index
 abbrev pub PlaceFor : List ℕ → ℕ → List Filed → Type 0
 PlaceFor name zero [] = Unit {0}
 PlaceFor name zero (f ∷ fs) = word_cmp name f.rec.name ≡ Less

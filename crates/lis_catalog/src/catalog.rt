@@ -13,7 +13,7 @@ use std::alloc::{AllocError, Global};
 use std::marker::Model;
 use thiserror::Error;
 
-/// Why a record is not taken.
+/// Why a record is refused.
 #[derive(Debug, Drop, Error)]
 pub enum CatalogFault {
     #[error("the name is taken")]
@@ -22,7 +22,7 @@ pub enum CatalogFault {
     NoFileRoom,
 }
 
-/// The file records of an image, by name and by slot. All memory is taken by `new`.
+/// The file records of an image, by name and by slot. All memory is allocated by `new`.
 #[derive(Drop)]
 pub struct Catalog {
     files: u32,
@@ -80,7 +80,7 @@ fn all_free(alloc: Global, files: u32) -> Result<Vec<Option<FileRec>>, AllocErro
 }
 
 impl Catalog {
-    /// No files, and slots for so many.
+    /// A catalog without files, with `files` slots.
     pub fn new(alloc: Global, files: u32) -> Result<Catalog, AllocError>
         requires { IsTrue (is_files_limit files) }
         ensures { IfOk result (λ c. c ≡ record { files = files; entries = [] }) }
@@ -100,7 +100,7 @@ impl Catalog {
         self.order.len() as u32
     }
 
-    /// The slot of the file that has the name, which is in the form of names.
+    /// The slot of the file that has the name, which is a file name.
     pub fn slot_of(&self, name: &Name) -> Option<u16>
         ensures slot { result ≡ slot_of self.now name.now }
         ensures name { IsTrue (is_file_name name.now) }
@@ -108,7 +108,7 @@ impl Catalog {
         self.holder(name)
     }
 
-    // The same, with what holds of every catalog.
+    // The same. The contract also says what holds of every catalog.
     fn holder(&self, name: &Name) -> Option<u16>
         ensures slot { result ≡ slot_of self.now name.now }
         ensures name { IsTrue (is_file_name name.now) }
@@ -120,7 +120,7 @@ impl Catalog {
         }
     }
 
-    // The place of a name where it is there, or else the place that it would have.
+    // The index of a name if it is there, and otherwise the index that it would have.
     fn find(&self, name: &Name) -> Result<usize, usize>
         ensures bound { IsSearchInRange result (length self.now.entries) }
         ensures place { MatchResult result (λ k. FoundAt name.now k self.now.entries) (λ k. PlaceFor name.now k self.now.entries) }
@@ -157,7 +157,7 @@ impl Catalog {
         record_at(&self.records, slot)
     }
 
-    // The place of the file in the slot, by its name.
+    // The index of the file in the slot, in the order of names.
     fn place_of(&self, slot: u16) -> Option<usize>
         ensures none { IfNone result (rec_at self.now slot ≡ None) }
         ensures place { IfSome result (λ k. slice_get (slots self.now) k ≡ Some slot) }
@@ -169,7 +169,7 @@ impl Catalog {
         Some(place)
     }
 
-    /// Adds a file in a free slot, and answers the slot.
+    /// Adds a file in a free slot, and returns the slot.
     pub fn add(&mut self, rec: FileRec) -> Result<u16, CatalogFault>
         ensures { Adds self.old rec self.new result }
     {
@@ -184,7 +184,7 @@ impl Catalog {
         Ok(slot)
     }
 
-    /// Gives the file in the slot another record.
+    /// Replaces the record of the file in the slot.
     pub fn replace(&mut self, slot: u16, rec: FileRec) -> Result<(), CatalogFault>
         requires { IsSome (rec_at self.old slot) }
         ensures { Replaces self.old slot rec self.new result }
@@ -199,7 +199,7 @@ impl Catalog {
         Ok(())
     }
 
-    /// Takes the file out of the slot, and answers its record.
+    /// Removes the file from the slot, and returns its record.
     pub fn remove(&mut self, slot: u16) -> Option<FileRec>
         ensures was { result ≡ rec_at self.old slot }
         ensures gone { self.new ≡ without_slot self.old slot }

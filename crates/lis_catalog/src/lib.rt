@@ -1,4 +1,4 @@
-//! The file records of an image in the order of their names. All memory is taken when a catalog is made.
+//! The file records of an image in the order of their names. All memory is allocated when a catalog is made.
 #![tactic(auto)]
 
 mod catalog;

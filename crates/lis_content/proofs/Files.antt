@@ -1,4 +1,4 @@
--- What crates above need to know of files with index blocks, and of their placing.
+-- What crates above need of files with index blocks, and of their placing.
 use Rattle.std.proofs.Common.{◌≡◌, ◌⊎◌, ℕ, ◌+◌, ◌-◌, ◌<◌, ◌≤◌, ◌==◌, nat_lt, Bool, true, false, not, ◌&&◌, ◌||◌, cond, List, [], ◌∷◌, ◌++◌, length, take, drop, IsTrue, refl, sym, ◌∙◌, ap, subst, inl, inr, arith, length-append, take-append-drop}
 use Rattle.std.specs.List.{flat_map}
 use Rattle.std.proofs.lemmas.Bool.{and_parts, cond-true, cond-false, eq-eqb}
@@ -34,8 +34,8 @@ length-file_blocks base slot size at len = elim (by_size size) as (λ _. length 
       ∙ (len ∙ (cond-false (is_large size) 1 (blocks_needed size) small ∙ sym (cond-false (is_large size) (blocks_needed size + 1) (blocks_needed size) small)))
 ]
 
--- ---- a file where other blocks change
--- what these blocks hold is the same
+-- ---- a file when other blocks change
+-- what these blocks have is the same
 abbrev pub AreSame : ℕ → List ℕ → (ℕ → List ℕ) → (ℕ → List ℕ) → Type 0
 AreSame base blocks at after = (n : ℕ) → has_home base blocks n ≡ true → after n ≡ at n
 
@@ -57,7 +57,7 @@ back : (a c : Bool) → c ≡ true → (a || c) ≡ true
 back true c is = refl
 back false c is = is
 
--- of two lists of blocks, each is the same where both together are
+-- if two lists of blocks together are the same, each of them is
 same_front : (base : ℕ) (some more : List ℕ) (at after : ℕ → List ℕ) → AreSame base (some ++ more) at after → AreSame base some at after
 same_front base some more at after same n has = same n (list_any-append (λ b. base + b == n) some more ∙ front (has_home base some n) (has_home base more n) has)
 
@@ -68,7 +68,7 @@ index_among : (base : ℕ) (slot : List ℕ) → 0 < length slot → has_home ba
 index_among base [] some = absurd (omega arith)
 index_among base (b ∷ slot) some = front (base + b == base + b) (has_home base slot (base + b)) (eq-eqb (base + b) (base + b) refl)
 
--- A file is the same where the blocks that it has hold the same.
+-- A file is the same if what its blocks have is the same.
 pub record SameFile (base : ℕ) (slot : List ℕ) (size : ℕ) (at after : ℕ → List ℕ) : Type 0 where
   pub numbers : content_blocks base slot size after ≡ content_blocks base slot size at
   pub blocks : file_blocks base slot size after ≡ file_blocks base slot size at
@@ -129,7 +129,7 @@ slot_were_free base bytes taken now_taken before now slot placed =
     by true ns ms one two = one
     by false ns ms one two = two
 
--- and lie within an image that has all data blocks
+-- and are within an image that has all data blocks
 pub slot_within : (base bound : ℕ) (bytes : List ℕ) (taken now_taken : List Bool) (before now : Held) {old new : Meaning} (slot : List ℕ) → base + length taken ≤ bound → IsPlaced base bytes taken now_taken before now old new slot → IsTrue (are_within base bound slot)
 slot_within base bound bytes taken now_taken before now slot le placed =
     within_if_below base bound (length taken) slot le (below_from_free taken slot (slot_were_free base bytes taken now_taken before now slot placed))

@@ -23,7 +23,7 @@ pub numbers_from : (count : ℕ) (bytes ns : List ℕ) → length ns ≡ count �
 unfolding numbers_in
 numbers_from count bytes ns len each = fill_by_all (number_at bytes) ns count 0 len each
 
--- a number of a block's front
+-- a number among the first bytes of a block
 front_number : (count k : ℕ) (bytes : List ℕ) → k < count → number_at (take (2 * count) bytes) k ≡ number_at bytes k
 front_number count k bytes lt = ap₂ (λ a b. a + 256 * (b + 0)) (at 0 (omega arith)) (at 1 (omega arith))
   where
@@ -74,12 +74,12 @@ small_size size few = le-ltb 16 (blocks_needed size) (omega (arith, few))
 pub small_content : (base : ℕ) (slot : List ℕ) (size : ℕ) (at : ℕ → List ℕ) → is_large size ≡ false → file_content base slot size at ≡ content base slot size at
 small_content base slot size at is = ap (λ ns. content base ns size at) (small_numbers base slot size at is)
 
--- ---- an index block spells the numbers that are read from it, where zeros stand behind them
+-- ---- an index block spells the numbers that are read from it, if zeros follow them
 two_bytes : (a b : ℕ) → a < 256 → b < 256 → little_bytes 2 (a + 256 * (b + 0)) ≡ a ∷ b ∷ []
 two_bytes a b small_a small_b =
     ap₂ (λ x y. x ∷ y ∷ []) (let e : (a + 256 * (b + 0)) % 256 ≡ a = omega (arith, small_a, small_b) in e) (let e : (a + 256 * (b + 0)) / 256 % 256 ≡ b = omega (arith, small_a, small_b) in e)
 
--- the first number, and those behind it
+-- the first number, and those after it
 first_number : (count a b : ℕ) (rest : List ℕ) → numbers_in (suc count) (a ∷ b ∷ rest) ≡ (a + 256 * (b + 0)) ∷ numbers_in count rest
 first_number count a b rest =
     sym (numbers_from (suc count) (a ∷ b ∷ rest) ((a + 256 * (b + 0)) ∷ numbers_in count rest) (ap suc (length-numbers_in count rest)) each)

@@ -53,12 +53,12 @@ home_new base (b ∷ blocks) n new =
     let differ : base + b ≡ base + n → ⊥ = λ e. eqb-false b n parts.0 (omega (arith, e)) in
     ap (λ t. t || has_home base blocks (base + n)) (ne_eqb (base + b) (base + n) differ) ∙ home_new base blocks n parts.1
 
--- with a row more, the placed blocks are these and those of the row
+-- with one more row, the placed blocks are these and those of the row
 placed_more : (base : ℕ) (blocks : List ℕ) (n count : ℕ) → homes_of base (blocks ++ range_with_len n count) ≡ homes_of base blocks ++ range_with_len (base + n) count
 placed_more base blocks n count = homes_more base blocks (range_with_len n count) ∙ ap (λ hs. homes_of base blocks ++ hs) (homes_in_row base n count)
 
 -- ---- moments
--- An image stands for fewer blocks, and the others may be told by other words.
+-- An image that represents some blocks represents fewer of them, also by another function that gives the same for these.
 pub stands_told : (layout : Layout) (placed more : List ℕ) (kept now : ℕ → List ℕ) (image : List ℕ) → ((n : ℕ) → is_among more n ≡ false → (is_among placed n ≡ false) × (kept n ≡ now n)) → StandsBut layout placed kept image → StandsBut layout more now image
 unfolding StandsBut
 stands_told layout placed more kept now image less all = (all.0, by (replayed layout image) all.1)
@@ -67,7 +67,7 @@ stands_told layout placed more kept now image less all = (all.0, by (replayed la
     by None h = h
     by (Some r) h = record { long = h.long; same = λ n out not_in. let is = less n not_in in h.same n out is.0 ∙ is.1 }
 
--- ---- a row more
+-- ---- one more row
 module _ (base : ℕ) (start now_taken next_taken : List Bool) (before now : Held) {old mid new : Meaning} (blocks : List ℕ) (n count : ℕ) {P : (ℕ → List ℕ) → Type 0} (was : Lays base start now_taken before now old mid blocks P) (row : WritesRow base now_taken next_taken now mid new n count) where
   pub unlike : (k : ℕ) → n ≤ k → k < n + count → (has_number blocks k ≡ false) × (is_taken start k ≡ false)
   unlike k le lt = free_after (length start) start blocks k refl (below_from_free start blocks was.places.were_free) (ap (λ t. is_taken t k) (sym was.places.marks) ∙ row.row.were_free k le lt)
@@ -152,13 +152,13 @@ lays_torn base start now_taken next_taken before now next blocks P was torn = re
       (sym (ap (λ (h : Held). h.placed) torn.journal ∙ ap (λ (h : Held). h.placed) was.journal)));
 }
 
--- what is not staged of the free blocks stays so
+-- the free blocks that are not staged stay unstaged
 pub unstaged_still : (base : ℕ) (start now_taken : List Bool) (before now : Held) {old new : Meaning} (blocks : List ℕ) {P : (ℕ → List ℕ) → Type 0} → Lays base start now_taken before now old new blocks P → AreUnstaged base start before.staged → AreUnstaged base now_taken now.staged
 unstaged_still base start now_taken before now blocks was unstaged n lt free =
     let then = free_after (length start) start blocks n refl (below_from_free start blocks was.places.were_free) (ap (λ t. is_taken t n) (sym was.places.marks) ∙ free) in
     ap (λ (h : Held). has_entry h.staged (base + n)) was.journal ∙ unstaged n (omega (arith, lt, was.places.len)) then.1
 
--- ---- the parts of the bytes, one after another: those of `rest` are still to be placed
+-- ---- the parts of the bytes, in sequence: those of `rest` are still to be placed
 pub record IsPart (base : ℕ) (bytes rest blocks : List ℕ) (at : ℕ → List ℕ) : Type 0 where
   pub long : length (flat_map (λ b. at (base + b)) blocks) ≡ 4096 * length blocks
   pub holds : take (length bytes) (flat_map (λ b. at (base + b)) blocks ++ rest) ≡ bytes
@@ -181,7 +181,7 @@ flat_one base n blocks bytes at new =
     after : ℕ → List ℕ
     after = with_kept (base + n) bytes at
 
--- these bytes stand in a row of blocks behind others
+-- these bytes are in a row of blocks after others
 flat_row : (base n count : ℕ) (blocks bytes : List ℕ) (at : ℕ → List ℕ) → length bytes ≡ 4096 * count → ((k : ℕ) → n ≤ k → k < n + count → has_number blocks k ≡ false)
     → flat_map (λ b. with_run (base + n) count bytes at (base + b)) (blocks ++ range_with_len n count) ≡ flat_map (λ b. at (base + b)) blocks ++ bytes
 flat_row base n zero blocks [] at len new = ap (flat_map (λ b. at (base + b))) (append-nil blocks) ∙ sym (append-nil (flat_map (λ b. at (base + b)) blocks))
@@ -232,7 +232,7 @@ laying_more base bytes rest behind placed start now_taken next_taken before now 
     longer : length (blocks ++ range_with_len n count) ≡ length blocks + count
     longer = length-append blocks (range_with_len n count) ∙ ap (λ k. length blocks + k) (length-range_with_len n count)
 
--- a row of whole blocks more
+-- one more row of whole blocks
 pub laying_row : (base : ℕ) (bytes rest behind : List ℕ) (start now_taken next_taken : List Bool) (before now next : Held) {old mid new : Meaning} (blocks : List ℕ) (n count : ℕ)
     → Laying base bytes rest start now_taken before now old mid blocks → behind ≡ drop (4096 * count) rest → RowOf base rest now_taken next_taken now next mid new n count
     → IsDiskRun mid new → new.disk_faults ≡ mid.disk_faults → DiskFaultEnds mid new
@@ -246,7 +246,7 @@ laying_row base bytes rest behind start now_taken next_taken before now next blo
     (λ flat all holds. ap (take (length bytes)) (append_assoc flat front behind ∙ ap (λ xs. flat ++ xs) (ap (λ xs. front ++ xs) is ∙ take-append-drop (4096 * count) rest)) ∙ holds)
     row.placed (λ at m. run_other (base + n) count front at m) (λ at new. flat_row base n count blocks front at len new) run faults no_more
 
--- the last block, with zeros behind the bytes
+-- the last block, with zeros after the bytes
 pub laying_last : (base : ℕ) (bytes rest : List ℕ) (start now_taken next_taken : List Bool) (before now next : Held) {old mid new : Meaning} (blocks : List ℕ) (n : ℕ)
     → Laying base bytes rest start now_taken before now old mid blocks → 0 < length rest → length rest ≤ 4096 → OnePlaced base rest now_taken next_taken now next mid new n
     → IsDiskRun mid new → new.disk_faults ≡ mid.disk_faults → DiskFaultEnds mid new
@@ -257,7 +257,7 @@ laying_last base bytes rest start now_taken next_taken before now next blocks n 
     (λ flat all holds. ap (λ p. take (length bytes) ((flat ++ p) ++ [])) (sym (append-nil (padded 4096 rest))) ∙ part_more bytes flat rest rest [] all holds (append-nil rest) (inr refl))
     one (one_keeps (base + n) (padded 4096 rest)) (λ at new. flat_one base n blocks (padded 4096 rest) at (new n (omega arith) (omega arith))) run faults no_more
 
--- ---- what stands at the end
+-- ---- what holds at the end
 pub lays_as : (base : ℕ) (start now_taken : List Bool) (before now : Held) {old new : Meaning} (blocks : List ℕ) (P Q : (ℕ → List ℕ) → Type 0) → ((at : ℕ → List ℕ) → P at → Q at) → Lays base start now_taken before now old new blocks P → Lays base start now_taken before now old new blocks Q
 lays_as base start now_taken before now blocks P Q weaker was = record {
   places = was.places;

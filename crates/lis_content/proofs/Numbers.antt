@@ -1,4 +1,4 @@
--- Lists of block numbers, and what is taken when they are given back or taken.
+-- Lists of block numbers, and what is taken when they are freed or taken.
 use Rattle.std.proofs.Common.{◌≡◌, ◌⊎◌, ℕ, zero, suc, ◌+◌, ◌<◌, ◌≤◌, nat_lt, ◌==◌, Bool, true, false, not, ◌&&◌, ◌||◌, List, [], ◌∷◌, ◌++◌, length, get_or, set, refl, sym, ◌∙◌, ap, subst, inl, inr, arith, append_assoc, append-nil, length-set, get_or-set_same, get_or-set_other, eqb}
 use Rattle.std.specs.List.{list_all, range_with_len}
 use Rattle.std.proofs.lemmas.Bool.{and_parts, and_from, ltb-true, lt-ltb, eqb-false, ne_eqb, cases_eq, cases_lt}
@@ -52,7 +52,7 @@ free_after m taken (b ∷ ns) n len below free =
         let other : n ≡ b → ⊥ = λ e. differ (sym e) in
         (ap (λ t. t || has_number ns n) (ne_eqb b n differ) ∙ none, sym (get_or-set_other taken b n true false other) ∙ free_then)
 
--- One number more.
+-- One more number.
 pub distinct_more : (ns : List ℕ) (n : ℕ) → are_distinct ns ≡ true → has_number ns n ≡ false → are_distinct (ns ++ n ∷ []) ≡ true
 distinct_more [] n distinct new = refl
 distinct_more (b ∷ ns) n distinct new =
@@ -78,7 +78,7 @@ number_past ns n k none lt =
     list_any-append (λ m. m == k) ns (n ∷ [])
     ∙ (ap (λ t. t || (eqb n k || false)) none ∙ ap (λ t. t || false) (ne_eqb n k (λ e. absurd (omega (arith, lt, e)))))
 
--- Numbers in a row more.
+-- More consecutive numbers.
 pub row_new : (m : ℕ) (taken : List Bool) (ns : List ℕ) (n count : ℕ) → length taken ≡ m → are_distinct ns ≡ true → are_free taken ns ≡ true → n + count ≤ m
     → ((k : ℕ) → n ≤ k → k < n + count → (has_number ns k ≡ false) × (is_taken taken k ≡ false))
     → (are_distinct (ns ++ range_with_len n count) ≡ true) × (are_free taken (ns ++ range_with_len n count) ≡ true)
@@ -90,7 +90,7 @@ row_new m taken ns n (suc count) len distinct free within new =
     (λ k le lt. let was = new k (omega (arith, le)) (omega (arith, lt)) in (number_past ns n k was.0 (omega (arith, le)), was.1)) in
     (ap are_distinct (sym is) ∙ rest.0, ap (are_free taken) (sym is) ∙ rest.1)
 
--- Taken blocks stay taken where another one is given back.
+-- Taken blocks stay taken if another one is freed.
 pub taken_still : (taken : List Bool) (ns : List ℕ) (n : ℕ) → are_taken taken ns ≡ true → has_number ns n ≡ false → are_taken (set taken n false) ns ≡ true
 taken_still taken [] n held new = refl
 taken_still taken (b ∷ ns) n held new =
@@ -119,7 +119,7 @@ within_if_below base bound m (n ∷ ns) le below =
     let parts = and_parts (nat_lt n m) (are_below m ns) below in
     and_from (nat_lt (base + n) bound) (are_within base bound ns) (lt-ltb (base + n) bound (omega (arith, le, ltb-true n m parts.0))) (within_if_below base bound m ns le parts.1)
 
--- what is taken stays taken where blocks are taken
+-- what is taken stays taken when blocks are taken
 pub stays_marked : (taken : List Bool) (ns : List ℕ) (n : ℕ) → is_taken taken n ≡ true → is_taken (marked taken ns) n ≡ true
 stays_marked taken [] n held = held
 stays_marked taken (b ∷ ns) n held = stays_marked (set taken b true) ns n (by (cases_eq n b))

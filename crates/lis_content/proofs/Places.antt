@@ -1,4 +1,4 @@
--- A block that is read into its place among the bytes of a file.
+-- A block that is read as its part of the bytes of a file.
 use Rattle.std.proofs.Common.{◌≡◌, ◌⊎◌, inl, inr, ℕ, ◌+◌, ◌-◌, ◌*◌, ◌<◌, ◌≤◌, min, List, [], ◌∷◌, ◌++◌, length, take, drop, get_or, Bool, true, false, cond, refl, sym, ap, subst, ◌∙◌, arith, length-append, length-take, length-drop, append-nil}
 use Rattle.std.specs.List.{flat_map}
 use Rattle.std.proofs.Math.ListN.{drop_of_length-le}
@@ -13,7 +13,7 @@ use Rattle.lis_content.specs.Large.{content_blocks, file_blocks, is_large, slot_
 use Rattle.lis_content.proofs.Indexes.{large_blocks, large_numbers, length-numbers_in, small_blocks, small_numbers}
 use Rattle.lis_content.proofs.Reading.{IsFilled}
 
--- the front of a front that goes further, whichever goes further
+-- a prefix of a prefix, whichever is longer
 both_fronts : (m n : ℕ) (xs : List ℕ) → take m (take n xs) ≡ take n (take m xs)
 both_fronts m n xs = by (cases_lt m n)
   where
@@ -22,7 +22,7 @@ both_fronts m n xs = by (cases_lt m n)
     by (inr le) = take_all m (take n xs) (omega (arith, length-take n xs, le)) ∙ sym (take-take n m xs le)
 
 module _ (at size : ℕ) where
-  -- what stands behind a place of a front
+  -- what follows an index of a prefix
   behind_front : (xs : List ℕ) → drop at (take size xs) ≡ take (size - at) (drop at xs)
   behind_front xs = by (cases_lt at size)
     where
@@ -47,7 +47,7 @@ module _ (at end : ℕ) (old read : List ℕ) (is_end : end ≡ at + 4096) (whol
   part_between =
       ap (part at 4096) same_put ∙ subst (λ n. part at n (put old at read) ≡ read) whole (part-put old at read (omega (arith, whole, room)))
 
--- what was written into the front of the memory is written into the bytes
+-- what was written into the first bytes of the memory is written into the bytes
 torn_front : (at n size : ℕ) (old new : List ℕ) → at ≤ size → Torn at n old new → Torn at n (take size old) (take size new)
 torn_front at n size old new le torn = record {
   len = length-take size new ∙ (ap (λ l. min size l) torn.len ∙ sym (length-take size old));
@@ -64,7 +64,7 @@ pub part_front : (at n size : ℕ) (new block : List ℕ) → part at n new ≡ 
 part_front at n size new block is = ap (take n) (behind_front at size new) ∙ (both_fronts n (size - at) (drop at new) ∙ ap (take (size - at)) is)
 
 -- ---- the bytes of a file so far
--- one more block is read into its place
+-- one more block is read as its part
 pub filled_next : (at : ℕ → List ℕ) (ns : List ℕ) (k size : ℕ) (old new : List ℕ) → IsFilled at ns k size old → k < length ns → length ns ≡ blocks_needed size → length (at (get_or ns k 0)) ≡ 4096
     → Torn (4096 * k) 4096 old new → part (4096 * k) 4096 new ≡ take (size - 4096 * k) (at (get_or ns k 0)) → IsFilled at ns (k + 1) size new
 filled_next at ns k size old new was lt count whole torn read = record {
@@ -91,7 +91,7 @@ filled_next at ns k size old new was lt count whole torn read = record {
     snoc : flat_map at (take (k + 1) ns) ≡ done ++ (x ++ [])
     snoc = ap (flat_map at) (take_more ns k 0 lt) ∙ flat_map-append at (take k ns) (get_or ns k 0 ∷ [])
 
--- what was read is the front of all
+-- what was read is a prefix of all
 pub filled_front : (at : ℕ → List ℕ) (ns : List ℕ) (k size : ℕ) (buf : List ℕ) → IsFilled at ns k size buf → take (4096 * k) (take size (flat_map at ns)) ≡ take (4096 * k) buf
 filled_front at ns k size buf was =
     let done = flat_map at (take k ns) in

@@ -88,7 +88,7 @@ filling_done base bytes rest start now_taken before now blocks none was = record
     empty [] is = refl
     empty (x ∷ xs) is = absurd (omega arith)
 
--- the next part of the bytes behind those that stand already
+-- the next part of the bytes, after those that are there already
 pub part_more : (bytes flat rest front behind : List ℕ) → length flat + length rest ≡ length bytes → take (length bytes) (flat ++ rest) ≡ bytes → front ++ behind ≡ rest → (length front ≡ 4096) ⊎ (length behind ≡ 0) → take (length bytes) ((flat ++ (padded 4096 front ++ [])) ++ behind) ≡ bytes
 part_more bytes flat rest front behind all holds parts ends = by ends
   where
@@ -119,7 +119,7 @@ part_more bytes flat rest front behind all holds parts ends = by ends
         ∙ take_at (flat ++ front) (replicate (4096 - length front) 0) (length bytes) (ap length (ap (λ r. flat ++ r) is_rest ∙ whole))
         ∙ (ap (λ r. flat ++ r) is_rest ∙ whole))))
 
--- blocks whose homes are not that of n hold what they held
+-- blocks whose homes are not that of n have what they had
 pub same_others : (at after : ℕ → List ℕ) (base n : ℕ) (blocks content : List ℕ) → ((m : ℕ) → after m ≡ cond (eqb m (base + n)) content (at m)) → has_number blocks n ≡ false → flat_map (λ b. after (base + b)) blocks ≡ flat_map (λ b. at (base + b)) blocks
 same_others at after base n [] content looks new = refl
 same_others at after base n (b ∷ blocks) content looks new =

@@ -3,11 +3,11 @@ use Rattle.std.specs.Prelude.{ℕ, ◌+◌, ◌==◌, nat_lt, Bool, true, false,
 use Rattle.std.specs.List.{flat_map, fold, list_all, list_any}
 use Rattle.lis_blockmap.specs.Bitmap.{is_taken}
 
--- the bytes of a file, by what each block holds
+-- the bytes of a file, by what each block has
 abbrev pub content : ℕ → List ℕ → ℕ → (ℕ → List ℕ) → List ℕ
 content base blocks size at = take size (flat_map (λ b. at (base + b)) blocks)
 
--- what is taken when these blocks are given back
+-- what is taken when these blocks are freed
 abbrev pub given : List Bool → List ℕ → List Bool
 given taken blocks = fold (λ t n. slice_set t n false) taken blocks
 

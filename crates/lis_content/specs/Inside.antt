@@ -7,7 +7,7 @@ use Rattle.lis_region.specs.Region.{Region, get, HasFrame}
 abbrev pub frame_bytes : Region ℕ → ℕ → List ℕ
 frame_bytes region frame = unwrap_or (get region frame) []
 
--- the first so many of them
+-- the first `size` of them
 abbrev pub kept_bytes : Region ℕ → ℕ → ℕ → List ℕ
 kept_bytes region frame size = take size (frame_bytes region frame)
 

@@ -10,7 +10,7 @@ use Rattle.lis_content.specs.declared.fault.PutFault.{PutFault}
 use Rattle.lis_content.specs.declared.fault.PutFault.TheVariants.{NoSpace, Disk}
 use Rattle.lis_model.specs.Sets.{are_distinct}
 
--- The old blocks are given back, and the bytes stand in blocks that were free then. Every other block stays, staged or not.
+-- The old blocks are freed, and the bytes are in blocks that were free then. Every other block stays, staged or not.
 pub record IsPut (base : ℕ) (old bytes : List ℕ) (taken now_taken : List Bool) (before now : Held) (blocks : List ℕ) : Type 0 where
   pub count : length blocks ≡ blocks_needed (length bytes)
   pub distinct : IsTrue (are_distinct blocks)
@@ -28,7 +28,7 @@ pub record IsPut (base : ℕ) (old bytes : List ℕ) (taken now_taken : List Boo
   pub others : (n : ℕ) (was : List ℕ) → has_home base blocks n ≡ false → look now.staged n was ≡ look before.staged n was
   pub few : length now.staged ≤ length before.staged + length blocks
 
--- Nothing is put: the free blocks and the old ones are too few. No call of the disk is made, so that none fails.
+-- Nothing is put: the free blocks and the old ones are too few. No disk call is made, so none fails.
 abbrev pub IsRefused : List ℕ → List ℕ → List Bool → List Bool → Held → Held → PutFault → Type 0
 IsRefused old bytes taken now_taken before now NoSpace =
     (now_taken ≡ taken) × (now ≡ before) × (free_count taken + length old < blocks_needed (length bytes))

@@ -1,4 +1,4 @@
-//! One data block, or its front.
+//! One data block, or its first bytes.
 
 ghost use Rattle.std.specs.Prelude.{◌≡◌, ◌⊎◌, ◌+◌, ◌<◌, ◌≤◌, ◌==◌, if◌then◌else◌, ℕ, List, false, length, take, IsTrue, OnOk};
 ghost use Rattle.lis_ports.specs.Calls.{ReadsDisk};
@@ -11,7 +11,7 @@ use lis_journal::Journal;
 use lis_limits::BLOCK_LEN;
 use lis_ports::{Disk, Failed};
 
-/// The home of a data block, in an image of so many blocks.
+/// The home of a data block, in an image of `blocks` blocks.
 pub fn home(blocks: u32, base: u32, n: u16) -> u32
     requires { base + n < blocks }
     ensures { result ≡ base + n }
@@ -19,7 +19,7 @@ pub fn home(blocks: u32, base: u32, n: u16) -> u32
     base + u32::from(n)
 }
 
-/// Reads as many bytes of a block as the buffer has. A whole block is read straight into it.
+/// Reads as many bytes of a block as the buffer has. A whole block is read straight into the buffer.
 pub fn read_front<D: Disk>(
     journal: &Journal,
     disk: &mut D,
@@ -47,7 +47,7 @@ pub fn read_front<D: Disk>(
     Ok(())
 }
 
-/// Writes the bytes into a block, and zeros behind them.
+/// Writes the bytes into a block, and zeros after them.
 pub fn fill(block: &mut [u8], bytes: &[u8])
     requires whole { length block.old ≡ BLOCK_LEN }
     requires few { length bytes.now ≤ BLOCK_LEN }
@@ -58,7 +58,7 @@ pub fn fill(block: &mut [u8], bytes: &[u8])
     rest.fill(0);
 }
 
-/// Stages bytes as the front of a block that ends in zeros. A whole block is staged straight from them.
+/// Stages bytes as the first ones of a block that ends in zeros. A whole block is staged straight from them.
 pub fn stage_front(journal: &mut Journal, n: u32, bytes: &[u8])
     requires home { homes_start journal.old.layout ≤ n }
     requires within { n < journal.old.layout.blocks }

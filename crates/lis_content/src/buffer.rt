@@ -1,4 +1,4 @@
-//! The bytes of a file, in memory that is taken once.
+//! The bytes of a file, in memory that is allocated once.
 
 ghost use Rattle.std.specs.Prelude.{◌≡◌, ◌+◌, ◌-◌, ◌*◌, ◌<◌, ◌≤◌, ℕ, List, [], length, take, IsTrue, IfOk, OnOk};
 ghost use Rattle.lis_ports.specs.Calls.{ReadsDisk};
@@ -18,7 +18,7 @@ use lis_region::{Frame, Region};
 use std::alloc::{AllocError, Global};
 use std::marker::Model;
 
-/// The bytes of a file, in memory that is taken once.
+/// The bytes of a file, in memory that is allocated once.
 #[derive(Drop)]
 pub struct Buffer {
     region: Region<u8>,
@@ -37,7 +37,7 @@ impl Model for Buffer {
     ghost invariant = { λ b. IsKept b.region b.frame b.size };
 }
 
-// Reads the bytes of a file into the front of this memory.
+// Reads the bytes of a file into the first bytes of this memory.
 fn read_front<D: Disk>(
     items: &mut [u8],
     journal: &Journal,
@@ -69,7 +69,7 @@ fn read_front<D: Disk>(
     )
 }
 
-// Reads the bytes of a file into the front of a frame.
+// Reads the bytes of a file into the first bytes of a frame.
 fn read_frame<D: Disk>(
     region: &mut Region<u8>,
     frame: &Frame,
@@ -96,7 +96,7 @@ fn read_frame<D: Disk>(
     read_front(items, journal, disk, base, blocks, size)
 }
 
-// Reads a block into this place of the memory.
+// Reads a block into this memory, from index `at` on.
 fn read_place<D: Disk>(
     items: &mut [u8],
     journal: &Journal,
@@ -118,7 +118,7 @@ fn read_place<D: Disk>(
     journal.read(disk, home, &mut items[at..at + BLOCK_LEN])
 }
 
-// Reads a block into this place of a frame.
+// Reads a block into a frame, as the n-th block of its bytes.
 fn read_in_frame<D: Disk>(
     region: &mut Region<u8>,
     frame: &Frame,
@@ -146,7 +146,7 @@ fn read_in_frame<D: Disk>(
 }
 
 impl Buffer {
-    /// A buffer with no bytes yet. All memory that it will use is taken here.
+    /// A buffer with no bytes yet. All memory that it will use is allocated here.
     pub fn new(alloc: Global) -> Result<Buffer, AllocError>
         ensures { IfOk result (λ buffer. buffer ≡ []) }
     {
@@ -169,7 +169,7 @@ impl Buffer {
         &self.region.items(&self.frame)[..self.size as usize]
     }
 
-    /// Reads the bytes of a file in place of those that it has. After a fault it may have any.
+    /// Reads the bytes of a file instead of those that the buffer has. After a fault it may have any bytes.
     pub fn read<D: Disk>(
         &mut self,
         journal: &Journal,
@@ -203,7 +203,7 @@ impl Buffer {
         )
     }
 
-    /// Has so many bytes from now on, whichever they are.
+    /// Gives the buffer `size` bytes, whichever they are.
     pub fn resize(&mut self, size: u32)
         requires { size ≤ MAX_LARGE_FILE }
         ensures { length self.new ≡ size }
@@ -211,7 +211,7 @@ impl Buffer {
         self.size = size;
     }
 
-    /// Reads a block of the journal as the n-th block of the bytes, as far as they go. All others stay.
+    /// Reads a block of the journal as the n-th block of the bytes, up to their end. All other bytes stay.
     pub fn read_block<D: Disk>(
         &mut self,
         journal: &Journal,

@@ -19,8 +19,7 @@ use lis_journal::Journal;
 use lis_limits::{BLOCK_LEN, MAX_FILE, SLOT_BLOCKS};
 use lis_ports::{Disk, Failed};
 
-/// Gives the old blocks back, and stages the bytes in blocks that it takes. Whole blocks are staged, so the disk is not
-/// asked.
+/// Frees the old blocks, and stages the bytes in blocks that it takes. Whole blocks are staged, so it makes no disk call.
 pub fn put<D: Disk>(
     map: &mut BlockMap,
     journal: &mut Journal,
@@ -50,7 +49,7 @@ pub fn put<D: Disk>(
     Ok(stage_bytes(map, journal, base, bytes))
 }
 
-// Stages the bytes in blocks that it takes. All blocks but the last are whole.
+// Stages the bytes in blocks that it takes. All blocks except the last are whole.
 fn stage_bytes(
     map: &mut BlockMap,
     journal: &mut Journal,
@@ -111,7 +110,7 @@ pub fn read<D: Disk>(
     Ok(())
 }
 
-/// Gives the blocks of a file back.
+/// Frees the blocks of a file.
 pub fn drop_file(map: &mut BlockMap, blocks: &[u16])
     requires distinct { IsTrue (are_distinct blocks.now) }
     requires taken { IsTrue (are_taken map.old blocks.now) }

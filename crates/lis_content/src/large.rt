@@ -1,4 +1,4 @@
-//! The bytes of a file with an index block where a slot has too few numbers: read, and dropped.
+//! The bytes of a file, with an index block if a slot has too few numbers: read, and dropped.
 
 ghost use Rattle.std.specs.Prelude.{◌≡◌, ◌<◌, ◌≤◌, ◌==◌, ℕ, List, None, true, false, length, slice_index, slice_set, IsTrue, IfOk, IfSome, OnOk, OnErr};
 ghost use Rattle.std.specs.List.{list_all};
@@ -19,7 +19,7 @@ use lis_journal::Journal;
 use lis_limits::{BLOCK_LEN, MAX_FILE_BLOCKS, MAX_LARGE_FILE, SLOT_BLOCKS};
 use lis_ports::{Disk, Failed};
 
-/// Where the content of a file lies: the first data block of the image, the numbers in the file's slot, and how many bytes it has.
+/// Where the content of a file is: the first data block of the image, the numbers in the file's slot, and how many bytes it has.
 #[derive(Clone, Copy)]
 pub struct Laid<'a> {
     pub base: u32,
@@ -27,7 +27,7 @@ pub struct Laid<'a> {
     pub size: u32,
 }
 
-/// Whether so many bytes take more blocks than a slot numbers.
+/// Whether this many bytes take more blocks than a slot numbers.
 pub fn is_large(size: u32) -> bool
     requires { size ≤ MAX_LARGE_FILE }
     ensures { result ≡ is_large size }
@@ -35,7 +35,7 @@ pub fn is_large(size: u32) -> bool
     size.div_ceil(BLOCK_LEN as u32) > SLOT_BLOCKS
 }
 
-/// How many blocks so many bytes take, the index block among them.
+/// How many blocks this many bytes take, the index block among them.
 pub fn blocks_taken(size: u32) -> u32
     requires { size ≤ MAX_LARGE_FILE }
     ensures { result ≡ blocks_taken 2 size }
@@ -61,7 +61,7 @@ fn read_home<D: Disk>(journal: &Journal, disk: &mut D, n: u32, buf: &mut [u8]) -
     journal.read(disk, n, buf)
 }
 
-/// Reads the index block of a file, where it has one; the buffer stays where it has none.
+/// Reads the index block of a file, if it has one; otherwise the buffer stays.
 pub fn read_index_block<D: Disk>(
     journal: &Journal,
     disk: &mut D,
@@ -87,7 +87,7 @@ pub fn read_index_block<D: Disk>(
     read_home(journal, disk, first, buf)
 }
 
-// The number at a place of a block, counted by numbers.
+// The k-th number of a block, counted from 0.
 fn number_at(block: &[u8], k: usize) -> u16
     requires whole { length block.now ≡ BLOCK_LEN }
     requires place { k < MAX_FILE_BLOCKS }
@@ -96,7 +96,7 @@ fn number_at(block: &[u8], k: usize) -> u16
     LittleEndian::read_u16(&block[2 * k..])
 }
 
-// The number of the n-th block of the content, by the index block where there is one.
+// The number of the n-th block of the content, by the index block if there is one.
 fn number_of(blocks: &[u16], size: u32, index: &[u8], n: u32) -> u16
     requires few { size ≤ MAX_LARGE_FILE }
     requires count { length blocks.now ≡ slot_count size }
@@ -111,7 +111,7 @@ fn number_of(blocks: &[u16], size: u32, index: &[u8], n: u32) -> u16
     blocks[n as usize]
 }
 
-// Reads the block with this number, and zeros where the image has none.
+// Reads the block with this number, or zeros if the image has no such block.
 fn read_within<D: Disk>(
     journal: &Journal,
     disk: &mut D,
@@ -136,8 +136,8 @@ fn read_within<D: Disk>(
     read_home(journal, disk, base + u32::from(number), buf)
 }
 
-/// Reads the n-th block of a file's content, by the index block where the file has one. Behind the content's end it has any bytes. Where the index block gives a
-/// number that is none of the image's it gives zeros; no image that is in form has such a number.
+/// Reads the n-th block of a file's content, by the index block if the file has one. After the content's end the block has any bytes. If
+/// the index block gives a number that is none of the image's, the block reads as zeros; no well-formed image has such a number.
 pub fn read_block_by<D: Disk>(
     journal: &Journal,
     disk: &mut D,
@@ -166,8 +166,8 @@ pub fn read_block_by<D: Disk>(
     read_within(journal, disk, laid.base, number, buf)
 }
 
-/// Reads the n-th block of a file's content. Behind the content's end it has any bytes. Where the index block gives a
-/// number that is none of the image's it gives zeros; no image that is in form has such a number.
+/// Reads the n-th block of a file's content. After the content's end the block has any bytes. If the index block gives a number that is
+/// none of the image's, the block reads as zeros; no well-formed image has such a number.
 pub fn read_block<D: Disk>(
     journal: &Journal,
     disk: &mut D,
@@ -194,7 +194,7 @@ pub fn read_block<D: Disk>(
     read_block_by(journal, disk, laid, &index, n, buf)
 }
 
-// Gives a block back, where it is taken.
+// Frees a block, if it is taken.
 fn give_taken(map: &mut BlockMap, n: u16)
     ensures { map.new ≡ slice_set map.old n false }
 {
@@ -203,7 +203,7 @@ fn give_taken(map: &mut BlockMap, n: u16)
     }
 }
 
-// Gives those of these blocks back that are taken.
+// Frees those of these blocks that are taken.
 fn give_all(map: &mut BlockMap, blocks: &[u16])
     ensures { map.new ≡ given map.old blocks.now }
 {
@@ -212,7 +212,7 @@ fn give_all(map: &mut BlockMap, blocks: &[u16])
     }
 }
 
-// So many numbers from the front of a block.
+// The first `count` numbers of a block.
 fn numbers_in(block: &[u8], count: usize) -> ArrayVec<u16, MAX_FILE_BLOCKS>
     requires whole { length block.now ≡ BLOCK_LEN }
     requires few { count ≤ MAX_FILE_BLOCKS }
@@ -226,7 +226,7 @@ fn numbers_in(block: &[u8], count: usize) -> ArrayVec<u16, MAX_FILE_BLOCKS>
     numbers
 }
 
-// The numbers of the blocks that have the content, where the index block has them.
+// The numbers of the blocks that have the content, from the index block.
 fn read_index<D: Disk>(
     journal: &Journal,
     disk: &mut D,
@@ -256,8 +256,8 @@ pub fn are_zeros(bytes: &[u8]) -> bool
     bytes.iter().all(|byte| *byte == 0)
 }
 
-/// The numbers that an index block has, for a content of so many bytes. None comes exactly where the block is out of form: where something
-/// else than zeros stands behind them.
+/// The numbers that an index block has, for a content of `size` bytes. None exactly if the block is malformed: if anything but zeros
+/// follows the numbers.
 pub fn index_numbers(block: &[u8], size: u32) -> Option<ArrayVec<u16, MAX_FILE_BLOCKS>>
     requires whole { length block.now ≡ BLOCK_LEN }
     requires few { size ≤ MAX_LARGE_FILE }
@@ -315,8 +315,7 @@ pub fn read_content<D: Disk>(
     read(journal, disk, base, &numbers, size, buf)
 }
 
-/// Gives all blocks of a file back, the index block among them. A number that is not taken is passed over; on an image
-/// in form there is none.
+/// Frees all blocks of a file, the index block among them. A number that is not taken is skipped; in a well-formed image there is none.
 pub fn drop_large<D: Disk>(
     map: &mut BlockMap,
     journal: &Journal,

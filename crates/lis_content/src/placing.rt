@@ -26,7 +26,7 @@ use lis_ports::{Disk, Failed};
 // Bytes of the numbers of as many blocks as a content has.
 const INDEX_BYTES: usize = 2 * MAX_FILE_BLOCKS;
 
-// Blocks that stand in a row.
+// Consecutive blocks.
 #[derive(Clone, Copy)]
 struct Row {
     first: u16,
@@ -51,7 +51,7 @@ fn take_next(map: &mut BlockMap, n: u32) -> bool
     true
 }
 
-// Takes free blocks that stand in a row, at least one and at most so many.
+// Takes consecutive free blocks, at least one and at most `most`.
 fn take_row(map: &mut BlockMap, most: u32) -> Row
     requires some { 0 < free_count map.old }
     requires most { (0 < most) × (most ≤ MAX_FILE_BLOCKS) }
@@ -72,7 +72,7 @@ fn take_row(map: &mut BlockMap, most: u32) -> Row
     Row { first, count }
 }
 
-// Takes free blocks that stand in a row, and places whole blocks from the front of the bytes in them, in one write.
+// Takes consecutive free blocks, and places the first whole blocks of the bytes in them, in one write.
 fn place_row<D: Disk>(
     map: &mut BlockMap,
     journal: &mut Journal,
@@ -101,7 +101,7 @@ fn place_row<D: Disk>(
     Ok(row)
 }
 
-// Takes a free block, and places the bytes as its front, and zeros behind them.
+// Takes a free block, and places the bytes as its first ones, with zeros after them.
 fn place_block<D: Disk>(
     map: &mut BlockMap,
     journal: &mut Journal,
@@ -127,7 +127,7 @@ fn place_block<D: Disk>(
     Ok(row.first)
 }
 
-// Puts the numbers of a row behind those that are there.
+// Appends the numbers of a row to those that are there.
 fn push_row(taken: &mut ArrayVec<u16, MAX_FILE_BLOCKS>, row: Row)
     requires room { length taken.old.items + row.count ≤ MAX_FILE_BLOCKS }
     requires narrow { row.first + row.count ≤ NUMBERS }
@@ -213,7 +213,7 @@ fn slot_of(numbers: &[u16]) -> ArrayVec<u16, 16>
     slot
 }
 
-// Places the bytes, and the index block where there is one.
+// Places the bytes, and the index block if there is one.
 fn place_all<D: Disk>(
     map: &mut BlockMap,
     journal: &mut Journal,
@@ -242,8 +242,8 @@ fn place_all<D: Disk>(
     Ok(slot_of(&[index]))
 }
 
-/// Takes free blocks, and places the bytes and the index block in them: no record is written, and until the next commit
-/// a crash may leave any bytes there. The result is what a slot numbers. After a fault of the disk the journal is broken.
+/// Takes free blocks, and places the bytes and the index block in them: no record is written, and until the next commit a crash may leave
+/// any bytes there. The result is the numbers for the slot. After a disk fault the journal is broken.
 pub fn place_file<D: Disk>(
     map: &mut BlockMap,
     journal: &mut Journal,

@@ -71,7 +71,7 @@ fn stage(alloc: Global, journal: &mut Journal, n: u32, fill: Option<u8>) -> Resu
     Ok(())
 }
 
-/// Commits the first and the last home block, each filled with a byte, where one is given. Answers whether the disk failed.
+/// Commits the first and the last home block, each filled with a byte, if one is given. Returns whether the disk failed.
 pub fn commit(
     alloc: Global,
     disk: &mut MemStation,
@@ -181,7 +181,7 @@ fn are_left(alloc: Global, disk: &MemStation, calls: u64, fills: [u8; 2]) -> Res
     Ok(())
 }
 
-/// The same, which a stop at any call of that mount does not change.
+/// The same. It also checks that a stop at any call of that mount does not change it.
 pub fn fills_after(alloc: Global, disk: &MemStation, call: u64, pick: u8) -> Result<[u8; 2], Fail>
     requires { IsTrue (meaning_of disk.now).is_recorded }
 {

@@ -15,7 +15,7 @@ use std::test::Fail;
 /// The bytes that a crash keeps of what was not synced: those before, the new ones, every second one, or others.
 const PICKS: [u8; 4] = [0, 1, 2, 165];
 
-// A mount after a crash just after each of these calls reads one of the two, and behind the last one the second.
+// A mount after a crash just after each of these calls reads one of the two fills, and after the last call the second one.
 fn are_read(
     alloc: Global,
     disk: &MemStation,
@@ -47,7 +47,7 @@ fn a_stop_in_a_commit_leaves_all_or_none(rt: HostRuntime) -> Result<(), Fail> {
     are_read(alloc, &disk, [start, disk.calls()], [[0, 0], [7, 7]])
 }
 
-// Commits the first home block so many times, filled with 1, 2 and so on. A mount after a crash behind each of them reads what it kept.
+// Commits the first home block `count` times, filled with 1, 2 and so on. A mount after a crash after each of them reads what it kept.
 fn keep_all(
     alloc: Global,
     disk: &mut MemStation,

@@ -1,4 +1,4 @@
-//! Tests of crashes: what a journal reads after a stop at any call of the disk, in a commit, in a checkpoint and in a recovery.
+//! Tests of crashes: what a journal reads after a stop at any disk call, in a commit, in a checkpoint and in a recovery.
 #![tactic(auto)]
 
 #[cfg(test)]

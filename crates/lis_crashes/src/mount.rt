@@ -9,7 +9,7 @@ use lis_memdisk::MemStation;
 use std::alloc::{AllocError, Global};
 use std::test::Fail;
 
-// The block of the first record that is not in form, or 0 where all are.
+// The block of the first malformed record, or 0 if there is none.
 fn bad_record(alloc: Global, image: &[u8]) -> Result<u32, Fail>
     requires { length image.now ≡ DISK_LEN }
 {
@@ -42,7 +42,7 @@ fn open_record(
     Ok(image)
 }
 
-/// Whether the second gate is open, the place of two bytes, the bytes, and the block that is told.
+/// Whether the second gate is open, the index of two bytes, the bytes, and the block that is reported.
 const HEADERS: [(u8, usize, [u8; 2], u32); 8] = [
     (0, 8, [81, 2], 0),
     (0, 0, [0, 0], 2),

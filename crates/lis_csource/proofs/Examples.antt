@@ -19,7 +19,7 @@ a_keyword : source_words (codes "if (x) {") ≡ []
 unfolding source_words joined pieces
 a_keyword = refl
 
--- a path wants its closing byte
+-- a path needs its closing byte
 an_open_path : source_words (codes "# /* */ include \"a/b.h") ≡ []
 unfolding source_words joined pieces
 an_open_path = refl
@@ -39,13 +39,13 @@ strings : source_words (codes "\"\\\"f(){}\" \"\ng(){}") ≡ codes "defines:g" �
 unfolding source_words joined pieces
 strings = refl
 
--- the word of a function stands where its name does, before those of the includes behind the name
+-- the word of a function is in the order of its name, before those of the includes after the name
 order : source_words (codes "f\n#include <a.h>\n(\n#include <b.h>\n)\n#include <c.h>\n{}")
     ≡ codes "defines:f" ∷ codes "includes:a.h" ∷ codes "includes:b.h" ∷ codes "includes:c.h" ∷ []
 unfolding source_words joined pieces
 order = refl
 
--- if it is not defined, those of the includes alone stand
+-- if it is not defined, only those of the includes are given
 no_order : source_words (codes "f\n#include <a.h>\n(\n#include <b.h>\n)\n#include <c.h>\n;") ≡ codes "includes:a.h" ∷ codes "includes:b.h" ∷ codes "includes:c.h" ∷ []
 unfolding source_words joined pieces
 no_order = refl

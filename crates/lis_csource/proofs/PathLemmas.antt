@@ -1,10 +1,10 @@
--- The last part of a path, found from its front on.
+-- The last part of a path, found from its start on.
 use Rattle.std.proofs.Common.{◌≡◌, ℕ, Bool, true, false, cond, ◌||◌, List, [], ◌∷◌, refl}
 use Rattle.std.specs.List.{list_any}
 use Rattle.lis_transducers.specs.Bytes.{is_slash}
 use Rattle.lis_transducers.specs.Entries.{last_part}
 
--- the last part of some bytes that end with the rest, where no / stands before the rest
+-- the last part of some bytes that end with the rest, if no / is before the rest
 abbrev pub last_or : List ℕ → List ℕ → List ℕ
 last_or bytes rest = cond (list_any is_slash rest) (last_part rest) bytes
 

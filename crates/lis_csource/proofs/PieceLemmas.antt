@@ -1,4 +1,4 @@
--- The pieces of some bytes: the first one, and those of what stands behind it.
+-- The pieces of some bytes: the first one, and those of what follows it.
 use Rattle.std.proofs.Common.{◌≡◌, ℕ, suc, zero, ◌≤◌, Bool, true, false, cond, ◌==◌, ◌&&◌, List, [], ◌∷◌, length, refl, sym, ap, ◌∙◌, arith}
 use Rattle.std.specs.Char.{is_ascii_digit}
 use Rattle.lis_transducers.specs.Bytes.{is_slash, is_white, is_name_start, is_name_byte, is_number_byte, is_no_feed, past, begins_with, but_first}
@@ -8,7 +8,7 @@ use Rattle.lis_transducers.specs.declared.piece.Context.{Context}
 use Rattle.lis_transducers.specs.Pieces.{Read, IsFirst, read, piece_of, pieces, pieces_within, after_block, after_literal, is_in_path, close_of, slash_piece, quote_piece, is_open, opens_path, open_piece, first_piece, context_after}
 use Rattle.lis_words.specs.Bytes.{is_feed, is_blank}
 
--- a piece takes no byte from before it
+-- what follows a run is no longer than the bytes
 past_shorter : (test : ℕ → Bool) (bytes : List ℕ) → length (past test bytes) ≤ length bytes
 past_shorter test [] = omega arith
 past_shorter test (b ∷ bytes) = by (test b) (past_shorter test bytes)

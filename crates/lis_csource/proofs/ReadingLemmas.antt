@@ -40,7 +40,7 @@ candidate_parts braces parens kind bytes h =
     let first = and_parts (is_identifier kind) (braces == 0) inner.0 in
     (is_identifier_kind kind first.0, eqb-true braces 0 first.1, eqb-true parens 0 inner.1)
 
--- where it stands, no other identifier waits for its parentheses to close
+-- outside parentheses, no other identifier waits for its parentheses to close
 stage_ends : (stage : Stage) → IsSoundStage stage 0 → stage_after stage 0 Identifier ≡ Nothing
 stage_ends Nothing sound = refl
 stage_ends Named sound = refl

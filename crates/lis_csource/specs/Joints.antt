@@ -1,7 +1,7 @@
--- The joint that bytes begin with.
+-- The joint that bytes begin with: a backslash and a line end.
 use Rattle.std.specs.Prelude.{ℕ, ◌==◌, ◌&&◌, if◌then◌else◌, List, [], ◌∷◌}
 
--- how many bytes the joint has that the bytes begin with; 0 where they begin with none
+-- how many bytes the joint has that the bytes begin with; 0 if they begin with none
 abbrev pub joint_len : List ℕ → ℕ
 joint_len [] = 0
 joint_len (a ∷ []) = 0

@@ -13,10 +13,10 @@ is_in Number = is_number_byte
 is_in Line = is_no_feed
 is_in (Path close) = is_in_path close
 
--- the run that stands first, when the lines are joined
+-- the first run, when the lines are joined
 abbrev pub run_text : Run → List ℕ → List ℕ
 run_text run bytes = front (is_in run) (joined bytes)
 
--- what stands behind it
+-- what follows it
 abbrev pub past_run : Run → List ℕ → List ℕ
 past_run run bytes = past (is_in run) (joined bytes)

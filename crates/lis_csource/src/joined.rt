@@ -4,7 +4,7 @@ ghost use Rattle.std.specs.Prelude.{◌≡◌, ◌<◌, ◌≤◌, [], ◌∷◌
 ghost use Rattle.lis_transducers.specs.Joined.{joined};
 ghost use Rattle.lis_csource.specs.Joints.{joint_len};
 
-/// How many bytes the joint has that the bytes begin with; 0 where they begin with none.
+/// How many bytes the joint has that the bytes begin with; 0 if they begin with none.
 fn joint_len(bytes: &[u8]) -> usize
     ensures value { result ≡ joint_len bytes.now }
     ensures within { result ≤ length bytes.now }
@@ -37,7 +37,7 @@ fn past_joints(bytes: &[u8]) -> &[u8]
     }
 }
 
-/// The first byte when the lines are joined, and what stands behind it.
+/// The first byte when the lines are joined, and what follows it.
 pub fn next_byte(bytes: &[u8]) -> Option<(u8, &[u8])>
     ensures joined { MatchOption result (joined bytes.now ≡ [])
         (λ found. joined bytes.now ≡ found.0 ∷ joined found.1.now) }

@@ -1,4 +1,4 @@
-//! The pieces of a source, one after another.
+//! The pieces of a source, in sequence.
 
 ghost use Rattle.std.specs.Prelude.{◌≡◌, ◌<◌, ◌≤◌, [], ◌∷◌, length, true, false, MatchOption, IfSome};
 ghost use Rattle.lis_transducers.specs.Bytes.{is_white, is_name_start, past, but_first};
@@ -11,7 +11,7 @@ use crate::runs::Run;
 use crate::words::is_include;
 use lis_transducers::piece::{Context, Kind};
 
-/// A piece, where its text begins, and what stands behind it.
+/// A piece, the place where its text begins, and what follows it.
 #[derive(Clone, Copy)]
 pub struct Found<'a> {
     pub kind: Kind,
@@ -72,7 +72,7 @@ fn past_literal(close: u8, bytes: &[u8]) -> &[u8]
     rest
 }
 
-/// What stands behind a path. None comes exactly where its closing byte does not come before the next line feed.
+/// What follows a path. None exactly if its closing byte does not come before the next line feed.
 fn past_path(close: u8, bytes: &[u8]) -> Option<&[u8]>
     ensures rest { MatchOption result (has_close close (joined bytes.now) ≡ false)
         (λ behind. (has_close close (joined bytes.now) ≡ true) × (joined behind.now ≡ but_first (past (is_in_path close) (joined bytes.now)))) }
@@ -202,7 +202,7 @@ fn begun_piece<'a>(context: Context, first: u8, start: &'a [u8], bytes: &'a [u8]
     }
 }
 
-/// The first piece of the bytes, where it stands in this context. None comes exactly at the end.
+/// The first piece of the bytes, which is in this context. None exactly at the end.
 pub fn first_piece(context: Context, bytes: &[u8]) -> Option<Found<'_>>
     ensures piece { MatchOption result (pieces context (joined bytes.now) ≡ [])
         (λ found. IsFirst context (joined bytes.now) (piece_of found.kind (joined found.text.now)) (joined found.rest.now)) }
@@ -214,7 +214,7 @@ pub fn first_piece(context: Context, bytes: &[u8]) -> Option<Found<'_>>
     }
 }
 
-/// Where the piece behind this one stands.
+/// The context of the piece after this one.
 pub fn context_after(context: Context, kind: Kind, text: &[u8]) -> Context
     ensures { result ≡ context_after context (piece_of kind (joined text.now)) }
 {

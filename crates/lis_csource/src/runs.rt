@@ -8,16 +8,16 @@ use crate::joined::next_byte;
 use arrayvec::ArrayVec;
 use lis_limits::MAX_WORD;
 
-/// A kind of bytes that stand together.
+/// A kind of bytes that make a run.
 #[derive(Clone, Copy, Debug, PartialEq, Eq)]
 pub enum Run {
     /// Letters, digits and `_`.
     Name,
     /// Letters, digits, `_` and full stops.
     Number,
-    /// All bytes but a line feed.
+    /// All bytes except a line feed.
     Line,
-    /// All bytes but a line feed and the byte that closes a path.
+    /// All bytes except a line feed and the byte that closes a path.
     Path(u8),
 }
 
@@ -47,7 +47,7 @@ impl Run {
         }
     }
 
-    /// What stands behind the run.
+    /// What follows the run.
     pub fn past(self, bytes: &[u8]) -> &[u8]
         ensures rest { joined result.now ≡ past_run self bytes.now }
         ensures within { length result.now ≤ length bytes.now }
@@ -62,7 +62,7 @@ impl Run {
         rest
     }
 
-    /// The head and the run's bytes. None comes exactly where they are more than 60 bytes.
+    /// The head and the run's bytes. None exactly if they are more than 60 bytes.
     pub fn text(self, head: &[u8], bytes: &[u8]) -> Option<ArrayVec<u8, 60>>
         ensures { MatchOption result (MAX_WORD < length (head.now ++ run_text self bytes.now))
             (λ text. text.items ≡ head.now ++ run_text self bytes.now) }

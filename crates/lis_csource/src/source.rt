@@ -36,7 +36,7 @@ struct Reading<'a> {
     stage: Stage,
     /// The identifier that may turn out to be defined.
     name: &'a [u8],
-    /// The words that are right if it is defined. None as long as they are those noted so far, and its own.
+    /// The words that are right if it is defined. None as long as they are those noted so far, and then its own word.
     early: Option<Derived>,
 }
 
@@ -75,7 +75,7 @@ fn depth_after(opening: u8, closing: u8, depth: usize, kind: Kind) -> usize
     depth
 }
 
-/// The stage behind a token, by the depth of parentheses behind it.
+/// The stage after a token, by the depth of parentheses after it.
 fn stage_after(stage: Stage, parens: usize, kind: Kind) -> Stage
     ensures { result ≡ stage_after stage parens kind }
 {
@@ -111,7 +111,7 @@ impl<'a> Reading<'a> {
         !is_keyword(text)
     }
 
-    /// Makes the words those that are right if the identifier is defined.
+    /// Replaces the words by those that are right if the identifier is defined.
     fn accept(&mut self, out: &mut Derived)
         ensures words { out.new ≡ with_name out.old (front is_name_byte (joined self.old.name.now)) self.old.early }
         ensures rest { self.new ≡ record self.old { early = None } }
@@ -211,11 +211,10 @@ impl<'a> Reading<'a> {
     }
 }
 
-/// Notes the words of a source in order: of each include the last part of its path, of each function that is defined
-/// outside braces and parentheses its name. The source is the bytes of a file as they are; it is read once, from front to
-/// end, and no byte of it is kept. Block comments do not nest, `//` runs to the end of its line, a backslash before a line
-/// end joins lines before comments are seen, a backslash escapes in literals, and includes are written with `<x>` or `"x"`,
-/// as in C; which words a source gives is this project's own.
+/// Notes the words of a source in order: for each include the last part of its path, and for each function that is defined outside braces
+/// and parentheses its name. The source is the bytes of a file as they are; it is read once, from start to end, and no byte of it is kept.
+/// Block comments do not nest, `//` runs to the end of its line, a backslash before a line end joins lines before comments are seen, a
+/// backslash escapes in literals, and includes are written with `<x>` or `"x"`, as in C; which words a source gives is this project's own.
 pub fn source_props(bytes: &[u8], out: &mut Derived)
     ensures { out.new ≡ noted_all out.old (source_words bytes.now) }
 {

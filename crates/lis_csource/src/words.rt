@@ -36,7 +36,7 @@ fn is_short_keyword(name: &[u8]) -> bool
     b"sizeof".as_slice() == name
 }
 
-/// Whether the name that stands here is a word of C that stands before a parenthesis and is no function.
+/// Whether the name that begins here is a word of C that comes before a parenthesis and is no function.
 pub fn is_keyword(bytes: &[u8]) -> bool
     ensures { result ≡ has_word keywords (front is_name_byte (joined bytes.now)) }
 {
@@ -46,7 +46,7 @@ pub fn is_keyword(bytes: &[u8]) -> bool
     }
 }
 
-/// Whether the name that stands here is `include`.
+/// Whether the name that begins here is `include`.
 pub fn is_include(bytes: &[u8]) -> bool
     ensures { result ≡ same_word (front is_name_byte (joined bytes.now)) (codes "include") }
 {
@@ -73,7 +73,7 @@ fn note_word(head: &[u8], run: Run, bytes: &[u8], out: &mut Derived)
     }
 }
 
-/// Notes that the name that stands here is defined.
+/// Notes that the name that begins here is defined.
 pub fn note_defined(bytes: &[u8], out: &mut Derived)
     ensures { out.new ≡ noted_all out.old
         (filter is_word ((codes "defines:" ++ front is_name_byte (joined bytes.now)) ∷ [])) }
@@ -99,7 +99,7 @@ fn last_part(close: u8, path: &[u8]) -> &[u8]
     last
 }
 
-/// Notes that the path that stands here is included: its part behind the last `/`.
+/// Notes that the path that begins here is included: its part after the last `/`.
 pub fn note_included(close: u8, path: &[u8], out: &mut Derived)
     ensures { out.new ≡ noted_all out.old
         (filter is_word ((codes "includes:" ++ last_part (front (is_in_path close) (joined path.now))) ∷ [])) }

@@ -1,4 +1,4 @@
--- Fronts that give all words of a file's bytes.
+-- Prefixes that give all words of a file's bytes.
 use Rattle.std.proofs.Common.{◌≡◌, ◌⊎◌, inl, inr, ℕ, ◌+◌, Bool, true, false, not, cond, ◌||◌, Option, List, [], ◌∷◌, ◌++◌, length, codes, refl, sym, ap, ap₂, ◌∙◌, length-append}
 use Rattle.std.proofs.lemmas.Bool.{and_parts, or_cases}
 use Rattle.lis_mail.specs.Header.{has_end_from}

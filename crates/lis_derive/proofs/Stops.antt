@@ -33,7 +33,7 @@ behind_none (b ∷ bytes) none =
     by true here = absurd (here refl)
     by false here = refl
 
--- the place of the last one
+-- the index of the last one
 pub behind_at : (bytes : List ℕ) (k : ℕ) → k < length bytes → is_stop (get_or bytes k 0) ≡ true
     → ((j : ℕ) → k < j → j < length bytes → is_stop (get_or bytes j 0) ≡ true → ⊥) → behind_stop bytes ≡ Some (drop (suc k) bytes)
 behind_at [] k lt is last = absurd (omega (arith, lt))

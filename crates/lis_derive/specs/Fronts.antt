@@ -10,14 +10,15 @@ is_mail suffix = is_suffix (codes "eml") suffix
 abbrev pub is_source : Option (List ℕ) → Bool
 is_source suffix = is_suffix (codes "c") suffix || is_suffix (codes "h") suffix
 
--- A front gives all words: of a mail where the header ends at one of the places from this one on, of a C source never, of any other file always.
+-- Whether it is certain that a prefix gives all words: of a mail, if an empty line ends in it at index `seen` or later; of a C source
+-- never; of any other file always.
 abbrev pub gives_by : Option (List ℕ) → List ℕ → ℕ → Bool
 gives_by suffix front seen = not (is_source suffix) && (not (is_mail suffix) || has_end_from front seen)
 
 unfoldable pub gives_all : List ℕ → List ℕ → ℕ → Bool
 gives_all name front seen = gives_by (suffix_of name) front seen
 
--- Whatever stands behind such a front, the words are the same, as long as there are as many bytes.
+-- Whatever follows such a prefix, the words are the same, as long as there are as many bytes.
 abbrev pub FrontsGiveAll : Type 0
 FrontsGiveAll = (name front rest other : List ℕ) (seen : ℕ) → gives_all name front seen ≡ true → length rest ≡ length other
     → derived_words name (front ++ rest) ≡ derived_words name (front ++ other)

@@ -9,7 +9,7 @@ use crate::suffix::{note_suffix, suffix_of};
 use lis_model::derived::Derived;
 use lis_words::Name;
 
-/// The first 48 distinct words of the name, the size and the content, in this order. No memory is taken.
+/// The first 48 distinct words of the name, the size and the content, in this order. It allocates no memory.
 pub fn derive_words(name: &Name, bytes: &[u8]) -> Derived
     ensures { result ≡ derived_words name.now bytes.now }
 {

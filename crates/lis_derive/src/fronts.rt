@@ -14,8 +14,8 @@ fn is_source(suffix: &[u8]) -> bool
     suffix == b"c".as_slice() || suffix == b"h".as_slice()
 }
 
-/// Whether a front of a file's bytes gives all words that are derived from them. The end of a mail's header is looked for from the place
-/// `seen` on.
+/// Whether it is certain that a prefix of a file's bytes gives all words that are derived from them. The empty line that ends a mail's
+/// header is searched from index `seen` on.
 #[tactic(auto, unfolding(crate::specs::Fronts::gives_all))]
 pub fn gives_all(name: &Name, front: &[u8], seen: usize) -> bool
     requires { seen ≤ length front.now }

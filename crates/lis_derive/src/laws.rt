@@ -2,7 +2,8 @@
 
 ghost use Rattle.lis_derive.specs.Fronts.{FrontsGiveAll};
 
-/// Of a mail the bytes with the header give all words of its content, and of a file that is no C source either none are needed.
+/// Of a mail, a prefix with the whole header gives all words of its content. Of a file that is neither a mail nor a C source, no bytes are
+/// needed.
 pub fn fronts_give_all()
     ensures { FrontsGiveAll }
 {}

@@ -13,7 +13,7 @@ use memchr::memrchr;
 /// The most bytes of a suffix that is in a word.
 const MAX_SUFFIX: usize = 56;
 
-/// What stands behind the last full stop.
+/// What follows the last full stop.
 fn behind_stop(bytes: &[u8]) -> Option<&[u8]>
     ensures { MatchOption result (behind_stop bytes.now ≡ None) (λ behind. behind_stop bytes.now ≡ Some behind.now) }
 {
@@ -26,7 +26,7 @@ fn behind_stop(bytes: &[u8]) -> Option<&[u8]>
     }
 }
 
-/// The bytes behind the last full stop of a name, where something stands before it and behind it.
+/// The bytes after the last full stop of a name, if it has at least one byte before it and one after it.
 pub fn suffix_of(name: &[u8]) -> Option<&[u8]>
     ensures { MatchOption result (suffix_of name.now ≡ None) (λ suffix. suffix_of name.now ≡ Some suffix.now) }
 {
@@ -52,7 +52,7 @@ fn suffix_text(suffix: &[u8]) -> ArrayVec<u8, 60>
     text
 }
 
-/// The word of a suffix. None comes exactly where it would be too long, or no word.
+/// The word of a suffix. None exactly if it would be too long, or no word.
 fn suffix_word(suffix: &[u8]) -> Option<Word>
     ensures word { IsSome result ↔ IsTrue (is_word (codes "ext:" ++ suffix.now)) }
     ensures same { IfSome result (λ word. word ≡ codes "ext:" ++ suffix.now) }
@@ -64,7 +64,7 @@ fn suffix_word(suffix: &[u8]) -> Option<Word>
     read_formula_word(text.as_slice())
 }
 
-/// Notes the word of a suffix, where it is one.
+/// Notes the word of a suffix, if it is a word.
 pub fn note_suffix(suffix: &[u8], out: &mut Derived)
     ensures { out.new ≡ noted_all out.old (suffix_words (Some suffix.now)) }
 {

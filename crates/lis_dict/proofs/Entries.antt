@@ -1,4 +1,4 @@
--- Entries in the order of their words, each with a number of its own.
+-- Entries in the order of their words, each with a separate number.
 use Rattle.std.proofs.Common.{◌≡◌, ◌⊎◌, ℕ, ◌==◌, Bool, true, false, not, ◌&&◌, cond, List, [], ◌∷◌, map, filter, refl, sym, ap, subst, ◌∙◌, inl, inr}
 use Rattle.std.specs.declared.cmp.Ordering.{Ordering}
 use Rattle.std.specs.declared.cmp.Ordering.TheVariants.{Less, Equal, Greater}
@@ -89,7 +89,7 @@ unique_number (e ∷ es) h a b (inl at) (inr bt) same = absurd (h.0 b bt (sym sa
 unique_number (e ∷ es) h a b (inr at) (inl bt) same = absurd (h.0 a at (same ∙ sym (ap (λ (x : DictEntry). x.1) bt)))
 unique_number (e ∷ es) h a b (inr at) (inr bt) same = unique_number es h.1 a b at bt same
 
--- ---- one entry more
+-- ---- one more entry
 pub ordered_insert : (es : List DictEntry) (k : DictEntry) → Ordered es → Ordered (insert_key entry_cmp es k)
 ordered_insert [] k h = (λ x m. absurd m, tt)
 ordered_insert (e ∷ es) k h = by (word_cmp k.0 e.0) refl (ordered_insert es k h.1)

@@ -1,4 +1,4 @@
--- The first element that passes a test, after a list is filtered or gets one key more.
+-- The first element that passes a test, after a list is filtered or gets one more key.
 use Rattle.std.proofs.Common.{◌≡◌, ◌+◌, Bool, true, false, cond, Some, None, List, [], ◌∷◌, filter, length, refl, sym, ap, subst, ◌∙◌, inl, inr, arith}
 use Rattle.std.specs.declared.cmp.Ordering.{Ordering}
 use Rattle.std.specs.declared.cmp.Ordering.TheVariants.{Less, Equal, Greater}
@@ -61,7 +61,7 @@ module _ {K : Type 0} (test : K → Bool) where
       by x true e kept drop = absurd (let no = drop e in cc)
       by x false e kept drop = e
 
-  -- one key more, which no other ties
+  -- one more key, which ties with no other
   pub find_insert_key : (cmp : K → K → Ordering) (xs : List K) (k : K) → ((x : K) → Among xs x → cmp k x ≡ Equal → ⊥) → (test k ≡ true → find test xs ≡ None)
       → find test (insert_key cmp xs k) ≡ cond (test k) (Some k) (find test xs)
   find_insert_key cmp [] k new none = refl
@@ -79,7 +79,7 @@ module _ {K : Type 0} (test : K → Bool) where
       by Greater e true is absent more = ap (λ t. cond t (Some x) (find test (insert_key cmp xs k))) is ∙ put (test k) absent
       by Greater e false is absent more = ap (λ t. cond t (Some x) (find test (insert_key cmp xs k))) is ∙ more absent
 
--- a key that no other ties makes the list longer by one
+-- a key that ties with no other makes the list longer by one
 pub length-insert_key : {K : Type 0} (cmp : K → K → Ordering) (xs : List K) (k : K) → ((x : K) → Among xs x → cmp k x ≡ Equal → ⊥) → length (insert_key cmp xs k) ≡ length xs + 1
 length-insert_key cmp [] k new = omega arith
 length-insert_key cmp (x ∷ xs) k new = by (cmp k x) refl (length-insert_key cmp xs k (λ y m. new y (inr m)))

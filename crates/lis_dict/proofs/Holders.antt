@@ -1,4 +1,4 @@
--- The words by their numbers, beside the entries.
+-- The words by their numbers, next to the entries.
 use Rattle.std.proofs.Common.{◌≡◌, ◌⊎◌, ℕ, suc, ◌+◌, ◌<◌, ◌≤◌, ◌==◌, Bool, true, false, cond, if◌then◌else◌, is_some, is_none, nat_lt, Option, Some, None, List, [], ◌∷◌, length, get_or, set, filter, IsTrue, refl, sym, ap, subst, ◌∙◌, inl, inr, arith, eq-eqb, length-set, get_or-set_same, get_or-set_other}
 use Rattle.std.specs.BTreeSet.{insert_key}
 use Rattle.std.specs.List.{count_by, position, position_or_len}
@@ -37,7 +37,7 @@ module _ (entries : List DictEntry) (holders : Holders) (props room : ℕ) (soun
         let nothing = ap {B = ℕ} (λ (h : Option (List ℕ)). cond (is_some h) 1 0) (sound.told number ∙ free) in
         omega (arith, count_after holders number (Some word) within, nothing, sound.counted)
 
-    -- there is room for one entry more
+    -- there is room for one more entry
     pub some_room : length entries + 1 ≤ props
     some_room = omega (arith, counted_more, count_by-le-length is_some (set holders number (Some word)), length-set holders number (Some word), sound.table)
 
@@ -91,7 +91,7 @@ all_held [] past = refl
 all_held (None ∷ hs) past = absurd (omega (arith, past))
 all_held (Some word ∷ hs) past = omega (arith, sum_by-cons (λ (h : Option (List ℕ)). cond (is_some h) 1 0) (Some word) hs, all_held hs (omega (arith, past)))
 
--- where no number is free, each is taken
+-- if no number is free, each is taken
 pub none_is_free : (holders : Holders) → None ≡ position is_none holders → count_by is_some holders ≡ length holders
 none_is_free holders h = by (nat_lt (position_or_len is_none holders) (length holders)) refl h
   where

@@ -101,7 +101,7 @@ module _ (d : Dict) (kept : IsDict d) where
   pub number_below : (word : List ℕ) (number : ℕ) → number_of d word ≡ Some number → number < d.props
   number_below word number h = ltb-true number d.props (all_among (λ (e : DictEntry). nat_lt e.1 d.props) d.entries (word, number) kept.below (among_from_number d word number h))
 
--- ---- one word more
+-- ---- one more word
 module _ (d : Dict) (word : List ℕ) (number : ℕ) (new : number_of d word ≡ None) where
   no_tie : (x : DictEntry) → Among d.entries x → entry_cmp (word, number) x ≡ Equal → ⊥
   no_tie x m tied = new_word d word new x m (sym (exact_bytes word x.0 tied))
@@ -147,7 +147,7 @@ module _ (d : Dict) (word : List ℕ) (number : ℕ) (new : number_of d word ≡
       formed : (w : List ℕ) → (x : DictEntry) × Among (insert_key entry_cmp d.entries (word, number)) x × (x.0 ≡ w) → is_property w ≡ true
       formed w found = subst (λ v. is_property v ≡ true) found.2 (formed_at found.0 (among_insert_key entry_cmp d.entries (word, number) found.0 found.1))
 
--- ---- one word less
+-- ---- one fewer word
 module _ (d : Dict) (word : List ℕ) where
   pub number_of-without_word : (other : List ℕ) → number_of (without_word d word) other ≡ (if same_word word other then None else number_of d other)
   number_of-without_word other = by (same_word word other) refl
@@ -202,6 +202,6 @@ module _ (d : Dict) (word : List ℕ) (k : ℕ) where
   pub number_absent : IsGap d.entries word k → number_of d word ≡ None
   number_absent gap = none_has_word d word (gap_absent d.entries word k gap)
 
-  -- a word that is not there is not taken out
+  -- a word that is not there is not removed
   pub without_new : IsGap d.entries word k → d ≡ without_word d word
   without_new gap = ap (λ (es : List DictEntry). record { props = d.props; entries = es }) (sym (filter_all (is_other word) d.entries (λ x m. other_true word x (gap_absent d.entries word k gap x m))))

@@ -1,4 +1,4 @@
--- The place of a word among entries in the order of their words.
+-- The index of a word among entries in the order of their words.
 use Rattle.std.proofs.Common.{◌≡◌, ◌⊎◌, ℕ, zero, suc, ◌+◌, ◌<◌, ◌≤◌, Bool, true, false, not, cond, Result, Ok, Err, IfOk, IfErr, List, [], ◌∷◌, length, get_or, filter, refl, sym, ap, subst, ◌∙◌, inl, inr, arith}
 use Rattle.std.specs.declared.cmp.Ordering.{Ordering}
 use Rattle.std.specs.declared.cmp.Ordering.TheVariants.{Less, Equal, Greater}
@@ -78,7 +78,7 @@ is_other word e = not (same_word e.0 word)
 pub other_true : (word : List ℕ) (e : DictEntry) → (e.0 ≡ word → ⊥) → is_other word e ≡ true
 other_true word e differ = ap not (same_false e.0 word differ)
 
--- to take the entry out is to filter by its word
+-- to remove the entry is to filter by its word
 pub remove_found : (es : List DictEntry) → Ordered es → (word : List ℕ) (k : ℕ) → k < length es → HoldsAt (λ (e : DictEntry). e.0 ≡ word) es k → remove es k ≡ filter (is_other word) es
 remove_found [] h word k lt at = absurd (omega arith)
 remove_found (e ∷ es) h word zero lt at =

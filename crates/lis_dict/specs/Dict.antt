@@ -34,7 +34,7 @@ word_of d number = option_map (λ e. e.0) (find (λ e. e.1 == number) d.entries)
 abbrev pub entry_cmp : List ℕ × ℕ → List ℕ × ℕ → Ordering
 entry_cmp a b = word_cmp a.0 b.0
 
--- the dictionary, with one word more
+-- the dictionary, with one more word
 abbrev pub with_entry : Dict → List ℕ → ℕ → Dict
 with_entry d word number = record d { entries = insert_key entry_cmp d.entries (word, number) }
 
@@ -50,7 +50,7 @@ pub record IsDict (d : Dict) : Type 0 where
   pub apart : IsTrue (are_distinct (numbers d))
   pub few : length d.entries ≤ d.props
 
--- a word is added: one that is there keeps its number, a new one gets a free number, and it is refused where no number is free
+-- a word is added: one that is there keeps its number, a new one gets a free number, and it is refused if no number is free
 abbrev pub Adds : {E : Type 0} → Dict → List ℕ → Dict → Result ℕ E → Type 0
 Adds old word new (Ok n) =
     ((number_of old word ≡ Some n) × (new ≡ old))

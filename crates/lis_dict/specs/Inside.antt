@@ -11,7 +11,7 @@ pub record IsSoundDict (entries : List (List ℕ × ℕ)) (holders : List (Optio
   pub dict : IsDict (dict_of entries props)
   pub limit : props ≤ MAX_PROPS
   pub table : length holders ≡ props
-  -- at each number stands the word that has it
+  -- at each number is the word that has it
   pub told : (n : ℕ) → slice_index_or holders n None ≡ word_of (dict_of entries props) n
   pub counted : count_by is_some holders ≡ length entries
   pub has_room : props ≤ room

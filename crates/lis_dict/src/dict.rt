@@ -30,13 +30,13 @@ impl Model for Entry {
     ghost view = { λ e. (e.word, e.number) };
 }
 
-/// Words and their numbers. All memory is taken by `new`.
+/// Words and their numbers. All memory is allocated by `new`.
 #[derive(Drop)]
 pub struct Dict {
     props: u32,
     // In the order of the words.
     entries: Vec<Entry>,
-    // The word that has it, at each number below `props`.
+    // At each number below `props`, the word that has it.
     holders: Vec<Option<Word>>,
 }
 
@@ -53,7 +53,7 @@ impl Model for Dict {
     ghost invariant = { λ d. IsSoundDict d.entries.items d.holders.items d.props (vec_capacity d.entries) };
 }
 
-// The place of the word, or else the place that it would have.
+// The index of the word, or otherwise the index that it would have.
 fn search(entries: &[Entry], word: &Word) -> Result<usize, usize>
     requires { (props : ℕ) × IsDict (dict_of entries.now props) }
     ensures bound { IsSearchInRange result (length entries.now) }
@@ -95,7 +95,7 @@ fn first_free(holders: &[Option<Word>]) -> Option<usize>
 }
 
 impl Dict {
-    /// No words yet, with room for so many.
+    /// A dictionary without words, with room for `props` of them.
     pub fn new(alloc: Global, props: u32) -> Result<Dict, AllocError>
         requires { IsTrue (is_props_limit props) }
         ensures { IfOk result (λ d. d ≡ record { props = props; entries = [] }) }
@@ -141,7 +141,7 @@ impl Dict {
         Some((entry.word.copied(), entry.number))
     }
 
-    /// The places in byte order between which all tests stand: from the first one on, and before the second one.
+    /// The indexes in byte order between which all tests are: from the first one on, and before the second one.
     pub fn tests(&self) -> (u32, u32)
         ensures rise { result.0 ≤ result.1 }
         ensures within { result.1 ≤ length self.now.entries }
@@ -149,12 +149,12 @@ impl Dict {
         ensures behind { (k : ℕ) (e : List ℕ × ℕ) → result.1 ≤ k → slice_get self.now.entries k ≡ Some e → test_of e.0 ≡ None }
     {
         let start = place_from(&self.entries, b"size<".as_slice());
-        // The other sign is `size>=`, and `?` comes behind `>`.
+        // The other sign is `size>=`, and `?` comes after `>`.
         let end = place_from(&self.entries, b"size?".as_slice());
         (start as u32, end.max(start) as u32)
     }
 
-    /// The word's number, after a new word was added with a free one.
+    /// The word's number. A new word is first added with a free number.
     pub fn add(&mut self, word: &Word) -> Result<u16, NoPropertyRoom>
         ensures { Adds self.old word.now self.new result }
     {
@@ -168,7 +168,7 @@ impl Dict {
         Ok(number)
     }
 
-    /// Removes the word, and gives its number free.
+    /// Removes the word, and frees its number.
     pub fn remove(&mut self, word: &Word) -> Option<u16>
         ensures number { result ≡ number_of self.old word.now }
         ensures gone { self.new ≡ without_word self.old word.now }

@@ -1,4 +1,4 @@
--- Members of lists by their places, and the first member that passes a test.
+-- Members of lists by their indexes, and the first member that passes a test.
 use Rattle.std.proofs.Common.{◌≡◌, ℕ, ◌≤◌, Bool, true, false, cond, ◌&&◌, ◌||◌, Option, Some, None, List, [], ◌∷◌, length, take, refl, sym, ap, ◌∙◌, inl, inr}
 use Rattle.std.specs.List.{slice_get, find, list_any, Contains}
 use Rattle.std.specs.Option.{option_map}
@@ -37,7 +37,7 @@ module _ {X : Type 0} where
       by true t e more = let same : y ≡ x = cc in (inl same, ap test (sym same) ∙ t)
       by false t e more = let rest = more e in (inr rest.0, rest.1)
 
-  -- where none passes, none passes with another test
+  -- if none passes, none passes together with another test
   pub find_none : (test more : X → Bool) (xs : List X) → find test xs ≡ None → list_any (λ x. test x && more x) xs ≡ false
   find_none test more [] e = refl
   find_none test more (y ∷ ys) e = by (test y) refl e (find_none test more ys)

@@ -1,4 +1,4 @@
--- What a view keeps, at one file or word, and rows that tell of files.
+-- What a view keeps, of one file or word, and rows of bits on files.
 use Rattle.std.proofs.Common.{◌≡◌, ℕ, ◌+◌, ◌<◌, ◌==◌, Bool, true, false, ◌&&◌, ◌||◌, ◌⊎◌, if◌then◌else◌, Some, None, List, take, refl, sym, ap, subst, ◌∙◌, inl, inr, eq-eqb}
 use Rattle.std.specs.Bool.{one_answer}
 use Rattle.std.specs.List.{slice_get, find, Contains}
@@ -51,7 +51,7 @@ file_is v kept f there =
     let found = find_first (λ (g : Placed). g.slot == f.slot) v.files f (among_from_contains v.files f there) (eq-eqb f.slot f.slot refl) in
     found.1 ∙ ap Some (kept.one_slot found.0 f (contains_from_among v.files found.0 found.2) there (eqb-true found.0.slot f.slot found.3))
 
--- the file at a place, as the view gives it
+-- the file at an index, as the view gives it
 pub record IsAt (v : Seen) (k : ℕ) (name : List ℕ) (slot : ℕ) (f : Placed) : Type 0 where
   pub at : slice_get v.files k ≡ Some f
   pub there : Contains v.files f
@@ -74,7 +74,7 @@ file_given v kept k name slot e =
       },
     )
 
--- a file's slot passes where the file does
+-- a file's slot passes exactly if the file does
 pub passes_at : (v : Seen) → IsView v → (test : Entry → Bool) (f : Placed) → Contains v.files f → slot_passes v.files test f.slot ≡ test f.entry
 passes_at v kept test f there = one_answer (slot_passes v.files test f.slot) (test f.entry) (only, all) (λ e. e, λ e. e)
   where
@@ -91,7 +91,7 @@ passes_at v kept test f there = one_answer (slot_passes v.files test f.slot) (te
 pub passes_none : (v : Seen) (test : Entry → Bool) (slot : ℕ) → file_in v slot ≡ None → slot_passes v.files test slot ≡ false
 passes_none v test slot none = find_none (λ (g : Placed). g.slot == slot) (λ (g : Placed). test g.entry) v.files none
 
--- one file more
+-- one more file
 pub passes_more : (files : List Placed) (test : Entry → Bool) (k slot : ℕ) (f : Placed) → slice_get files k ≡ Some f → (slot_passes (take k files) test slot || ((f.slot == slot) && test f.entry)) ≡ slot_passes (take (k + 1) files) test slot
 passes_more files test k slot f at =
     sym (list_any_more (λ (g : Placed). (g.slot == slot) && test g.entry) files k f (slice_get_within files k f at)

@@ -94,7 +94,7 @@ changes v kept old files depth now node value same shape small some within step 
   first = λ bit. (bits_set old 65 files now value shape small).others 0 bit (omega arith);
 }
 
--- the last formula of a stack turned over
+-- the last formula of a stack negated
 pub negates : (v : Seen) (old : Rows) (depth : ℕ) → 1 ≤ depth → (stack : List Formula) → IsStack v old depth stack
     → (f : Formula) × (rest : List Formula) × (with_node stack Not ≡ f ∷ rest) × (length (f ∷ rest) ≡ depth) × Stacks v old rest × ((p : Placed) → Contains v.files p → not (get old depth p.slot) ≡ holds f p.entry)
 negates v old depth some [] is = absurd (let deep = is.deep in omega arith)
@@ -128,7 +128,7 @@ pub all_hold : (v : Seen) (rows : Rows) (stack : List Formula) (p : Placed) → 
 all_hold v rows [] p there told = refl
 all_hold v rows (f ∷ stack) p there told = rw (told.0 p there, all_hold v rows stack p there told.1)
 
--- one row more
+-- one more row
 pub all_more : (old now : Rows) (row bit : ℕ) (rest : Bool) → (get now 0 bit ≡ (in_all old row bit && rest)) → get now (row + 1) bit ≡ get old (row + 1) bit → (get now 0 bit && get now (row + 1) bit) ≡ (in_all old (row + 1) bit && rest)
 all_more old now row bit rest first next = rw (first, next, more) (turned (in_all old row bit) rest (get old (row + 1) bit))
   where

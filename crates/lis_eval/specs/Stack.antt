@@ -8,7 +8,7 @@ use Rattle.lis_place.specs.declared.node.Node.{Node}
 use Rattle.lis_place.specs.Nodes.{with_node}
 use Rattle.lis_eval.specs.View.{Seen, Placed}
 
--- a row tells of which files the formula holds
+-- a row says of which files the formula holds
 abbrev pub RowIs : Seen → Rows → ℕ → Formula → Type 0
 RowIs v rows row f = (p : Placed) → Contains v.files p → get rows row p.slot ≡ holds f p.entry
 

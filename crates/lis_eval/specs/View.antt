@@ -1,4 +1,4 @@
--- A table whose words have numbers and whose files have slots, and what the rows tell of it.
+-- A table whose words have numbers and whose files have slots, and what the rows say of it.
 use Rattle.std.specs.Prelude.{◌≡◌, ℕ, ◌<◌, ◌≤◌, ◌==◌, ◌&&◌, Bool, true, false, Option, None, List, length, map}
 use Rattle.std.specs.Option.{option_map}
 use Rattle.std.specs.List.{find, list_any, Contains}
@@ -67,7 +67,7 @@ pub record IsView (v : Seen) : Type 0 where
   pub known : (f : Placed) (word : List ℕ) → Contains v.files f → Contains f.entry.words word → (w : List ℕ × ℕ) × Contains v.words w × (w.0 ≡ word)
   pub closed : (f : Placed) (w x : List ℕ × ℕ) → Contains v.files f → Contains v.words w → Contains v.words x → has_word f.entry.words w.0 ≡ true → entails (table_of v) w.0 x.0 ≡ true
       → has_word f.entry.words x.0 ≡ true
-  -- the step of a place that a word stands for asks for the word
+  -- the step of a place for a word holds of a file exactly if the file has the word
   pub steps : (f : Placed) (w : List ℕ × ℕ) → Contains v.files f → Contains v.words w → holds (step_of w.0) f.entry ≡ has_word f.entry.words w.0
 
 -- the rows have, for each known word, exactly the slots of the files that have the word

@@ -32,7 +32,7 @@ fn put_word<V: View>(view: &V, ext: &Ext, rows: &mut Rows, files: u32, row: u32,
     }
 }
 
-// Does to the stack of rows what a node does to a stack of formulas, and answers how many there are now.
+// Does to the stack of rows what a node does to a stack of formulas, and returns how many rows it has now.
 fn put_node<V: View>(
     view: &V,
     ext: &Ext,
@@ -84,7 +84,7 @@ fn put_node<V: View>(
     }
 }
 
-// Fills the stack with the rows of a place's steps, and answers how many there are.
+// Fills the stack with the rows of a place's steps, and returns how many there are.
 fn put_steps<V: View>(view: &V, ext: &Ext, rows: &mut Rows, files: u32, place: &Place) -> u32
     requires room { CanMark (V.seen view.now) rows.old files }
     requires told { TellsFiles (V.seen view.now) ext.now }

@@ -12,7 +12,7 @@ use std::alloc::{AllocError, Global};
 /// How many rows of files there are: those that are found, and a stack of as many as a place has nodes.
 pub const FILE_ROWS: u32 = 65;
 
-/// Rows by the slots of files and by the numbers of words, and room for a route. All memory is taken by `new`.
+/// Rows by the slots of files and by the numbers of words, and room for a route. All memory is allocated by `new`.
 #[derive(Drop)]
 pub struct Scratch {
     pub limits: Limits,
@@ -24,11 +24,11 @@ pub struct Scratch {
     pub candidates: Rows,
     /// One row of words: the increments of a listing.
     pub increments: Rows,
-    /// Of how many of the files that are found each number is.
+    /// How many of the files that are found have each number.
     pub counts: Vec<u32>,
     /// For what words entail.
     pub search: Search,
-    /// The places, in the order of words, of the words of a route.
+    /// The indexes, in the order of words, of the words of a route.
     pub route: Vec<u32>,
     /// How many words the route has.
     pub steps: u32,

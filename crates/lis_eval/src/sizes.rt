@@ -9,7 +9,7 @@ ghost use Rattle.lis_eval.specs.Room.{CanMark};
 use crate::view::View;
 use lis_bits::Rows;
 
-// Sets the bit of a file's slot where the file has at least so many bytes.
+// Sets the bit of a file's slot if the file has at least `least` bytes.
 fn put_size<V: View>(view: &V, rows: &mut Rows, files: u32, row: u32, slot: u16, least: u64)
     requires room { CanMark (V.seen view.now) rows.old files }
     requires row { row < 65 }
@@ -23,7 +23,7 @@ fn put_size<V: View>(view: &V, rows: &mut Rows, files: u32, row: u32, slot: u16,
     }
 }
 
-// Sets a row to the files that have at least so many bytes.
+// Sets a row to the files that have at least `least` bytes.
 pub(crate) fn fill_sizes<V: View>(view: &V, rows: &mut Rows, files: u32, row: u32, least: u64)
     requires room { CanMark (V.seen view.now) rows.old files }
     requires row { row < 65 }

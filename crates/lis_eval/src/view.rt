@@ -38,7 +38,7 @@ pub trait View {
         requires { IsSome (file_in (seen self.now) slot) }
         ensures { IsSomeAnd (file_in (seen self.now) slot) (λ (f : Placed). result ≡ f.entry.size) };
 
-    /// The numbers of the words of each file. The contract also tells what each view keeps.
+    /// The numbers of the words of each file. The contract also says what each view keeps.
     fn ext(&self) -> &Ext
         ensures rows { result.now ≡ rows self.now }
         ensures told { TellsFiles (seen self.now) result.now }

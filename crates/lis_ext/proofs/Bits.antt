@@ -51,7 +51,7 @@ module _ (old : Rows) (props files file : ℕ) (value : Bool) where
       no_fewer = h.no_fewer;
     }
 
--- a file's list becomes a new one
+-- a file's list is replaced
 pub in_step_set : (lists : List (List ℕ)) (rows mid after : Rows) (props files file : ℕ) (old new : List ℕ) → length lists ≡ files → file < files → get_or lists file [] ≡ old → AreInStep lists rows props files
     → PutsBits rows mid props files file (has_alone old new) false → PutsBits mid after props files file (has_alone new old) true → AreInStep (set lists file new) after props files
 in_step_set lists rows mid after props files file old new long file_in was step down up p i p_in i_in = by (cases_eq i file)

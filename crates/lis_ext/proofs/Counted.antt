@@ -34,7 +34,7 @@ pub where_more : (n : ℕ) (f : ℕ → Bool) → length (numbers_where (n + 1) 
 unfolding numbers_where
 where_more n f = let next : n + 1 ≡ suc n = omega arith in let start : 0 + n ≡ n = omega arith in rw next (rw start at (range_more f n 0))
 
--- none more pass from a bound on to a higher one
+-- if no number passes from a bound on to a higher one, the same numbers pass below both
 pub where_ends : (n m : ℕ) (f : ℕ → Bool) → n ≤ m → ((k : ℕ) → n ≤ k → k < m → f k ≡ false) → numbers_where n f ≡ numbers_where m f
 where_ends n m f le none = same_sets nat_cmp nat_cmp_total (numbers_where n f) (numbers_where m f) (sorted_where n f) (sorted_where m f)
     (λ p h. let parts = among_where n f p h in where_among m f p (omega (arith, parts.0)) parts.1)
@@ -55,7 +55,7 @@ pub where_zero : (f : ℕ → Bool) → length (numbers_where 0 f) ≡ 0
 unfolding numbers_where
 where_zero f = refl
 
--- the next number that passes one test is counted where it passes the other
+-- the next number that passes one test is counted if it passes the other
 pub counted_next : (n m : ℕ) (found had : ℕ → Bool) → n ≤ m → ((k : ℕ) → n ≤ k → k < m → found k ≡ false) → found m ≡ true
     → length (numbers_where (m + 1) (λ k. found k && had k)) ≡ length (numbers_where n (λ k. found k && had k)) + (if had m then 1 else 0)
 counted_next n m found had le none set =
@@ -89,7 +89,7 @@ any_counted f (x ∷ xs) = rw (sum_by-cons (λ y. cond (f y) 1 0) x xs) (by (f x
     by true rest = lt-ltb 0 (1 + count_by f xs) (omega arith)
     by false rest = let same : 0 + count_by f xs ≡ count_by f xs = omega arith in rw same rest
 
--- ---- a file's set becomes a new one
+-- ---- a file's set is replaced
 pub each_set : (P : List ℕ → Type 0) (sets : List (List ℕ)) (file : ℕ) (new : List ℕ) → ((i : ℕ) → i < length sets → P (get_or sets i [])) → P new → (i : ℕ) → i < length sets → P (get_or (set sets file new) i [])
 each_set P sets file new each fresh i lt = by (cases_eq i file)
   where

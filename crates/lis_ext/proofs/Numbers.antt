@@ -40,7 +40,7 @@ pub sorted_where : (props : ℕ) (test : ℕ → Bool) → IsStrictlySortedBy na
 unfolding numbers_where
 sorted_where props test = IsStrictlySortedBy-filter nat_cmp test (range_with_len 0 props) (sorted_range 0 props)
 
--- below the bound, a number is one of those that pass the test where it passes
+-- below the bound, a number is one of those that pass the test exactly if it passes
 pub has-numbers_where : (props : ℕ) (test : ℕ → Bool) (p : ℕ) → p < props → has_number (numbers_where props test) p ≡ test p
 has-numbers_where props test p lt = one_answer (has_number (numbers_where props test) p) (test p) (has_decides (numbers_where props test) p) (λ passes. where_among props test p lt passes, λ m. (among_where props test p m).1)
 
@@ -76,7 +76,7 @@ pub numbers_apart : (props : ℕ) (f g : ℕ → Bool) → ((p : ℕ) → f p �
 unfolding numbers_where
 numbers_apart props f g apart = filter_apart f g (range_with_len 0 props) apart
 
--- ---- the numbers from a place on
+-- ---- the numbers from an index on
 pub from_start : (props : ℕ) (test : ℕ → Bool) → numbers_where props test ≡ numbers_from props 0 test
 unfolding numbers_where
 from_start props test = let same : props - 0 ≡ props = omega arith in rw same
@@ -124,7 +124,7 @@ not_before numbers k rises lt = by (has_number (take k numbers) (get_or numbers 
         let before : found.0 < k = omega (arith, found.1, length-take k numbers) in
         absurd (let less = below_from_sorted numbers found.0 k 0 (sorted_from_strictly_increasing numbers rises) before lt in let same = get_or-take k numbers found.0 (get_or numbers k 0) before in let at = found.2 in let default = get_or_default numbers found.0 0 (get_or numbers k 0) (omega arith) in omega arith)
 
--- the first of the numbers from a place on, as `next` answers it
+-- the first of the numbers from `start` on, as `next` returns it
 pub next_is : (marks : Rows) (props start : ℕ) (r : Option ℕ) → marks.bits ≡ props → IfSome r (λ bit. IsTrue (get marks 0 bit)) → IfSome r (λ bit. bit < marks.bits) → IfSome r (λ bit. start ≤ bit) → IfSome r (NoneTrue marks 0 start)
     → IfNone r (NoneTrue marks 0 start marks.bits) → r ≡ slice_get (numbers_from props start (get marks 0)) 0
 next_is marks props start None wide set in_row from least none = ap (λ xs. slice_get xs 0) (sym (none_from props start (get marks 0) (λ p le lt. none p le (omega arith))))

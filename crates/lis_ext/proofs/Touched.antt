@@ -34,7 +34,7 @@ module _ (numbers : List ℕ) (k : ℕ) (lt : k < length numbers) where
 pub has_it : (numbers : List ℕ) (k : ℕ) → k < length numbers → has_number numbers (get_or numbers k 0) ≡ true
 has_it numbers k lt = (has_decides numbers (get_or numbers k 0)).1 (among_from_contains numbers (get_or numbers k 0) (k, lt, get_or_default numbers k (get_or numbers k 0) 0 lt))
 
--- what becomes of a test when it lets one more number pass
+-- a test, and a test that lets one more number pass
 pub record PassesMore (touched touched' : ℕ → Bool) (q : ℕ) : Type 0 where
   pub fresh : touched q ≡ false
   pub passes : touched' q ≡ true

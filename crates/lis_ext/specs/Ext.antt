@@ -4,9 +4,8 @@ use Rattle.std.specs.List.Sorted.{IsStrictlyIncreasing}
 use Rattle.lis_limits.specs.declared.TheConstants.{MAX_FILES, MAX_PROPS}
 use Rattle.lis_ext.specs.Numbers.{has_number, numbers_where}
 
--- numbers below `props`, the set of each file as a rising list, the numbers that are marked as changed, in rising
--- order, and a count of edits: it never falls, and a file's new set adds at most one for each number that the file gets
--- or loses
+-- numbers below `props`, the set of each file as a rising list, the numbers that are marked as changed, in rising order, and a count of
+-- edits: it never falls, and a file's new set adds at most as many edits as there are numbers that the file gets or loses
 pub record Ext : Type 0 where
   pub props : ℕ
   pub sets : List (List ℕ)

@@ -19,7 +19,8 @@ pub record Touches (old new : Rows) (props : ℕ) (touched : ℕ → Bool) : Typ
   pub shape : HasShape new 1 props
   pub marks : (p : ℕ) → p < props → get new 0 p ≡ (get old 0 p || touched p)
 
--- The file's bit has this value in the row of each number that passes the test, and all other bits stay. No row is changed more than once.
+-- The file's bit has this value in the row of each number that passes the test, and all other bits stay. At most as many edits are made as
+-- there are numbers that pass.
 pub record PutsBits (old new : Rows) (props files file : ℕ) (touched : ℕ → Bool) (value : Bool) : Type 0 where
   pub shape : HasShape new props files
   pub bits : (p i : ℕ) → p < props → i < files → get new p i ≡ (if (i == file) && touched p then value else get old p i)

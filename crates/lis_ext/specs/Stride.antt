@@ -3,7 +3,7 @@ use Rattle.std.specs.Prelude.{ℕ, ◌+◌, ◌*◌, ◌<◌, ◌≤◌, List, l
 use Rattle.std.specs.List.{range_with_len}
 use Rattle.lis_limits.specs.declared.TheConstants.{MAX_DESCRIPTION, MAX_FILES}
 
--- a list for each length: so many of the numbers from its place on
+-- a list for each length: that many of the numbers, from the index of the list on
 unfoldable pub lists_of : List ℕ → List ℕ → List (List ℕ)
 lists_of numbers lengths = map (λ i. take (slice_index lengths i) (drop (i * MAX_DESCRIPTION) numbers)) (range_with_len 0 (length lengths))
 

@@ -12,8 +12,8 @@ use lis_limits::{MAX_DESCRIPTION, MAX_FILES, MAX_PROPS};
 use std::alloc::{AllocError, Global};
 use std::marker::Model;
 
-/// The set of numbers of each file, how many files have each number, and marks of the numbers that a file got or lost.
-/// All memory is taken by `new`.
+/// The set of numbers of each file, how many files have each number, and marks of the numbers that a file got or lost. All memory is
+/// allocated by `new`.
 #[derive(Drop)]
 pub struct Ext {
     props: u32,
@@ -43,7 +43,7 @@ impl Model for Ext {
 impl Ext {
     ghost use Rattle.lis_ext.specs.Ext.{has, set_of, count_of, count_where, empty_ext, with_marks, IsKept};
 
-    /// Empty sets of so many files.
+    /// Empty sets of `files` files.
     pub fn new(alloc: Global, props: u32, files: u32) -> Result<Ext, AllocError>
         requires whole_words { files % 64 ≡ 0 }
         requires whole_marks { props % 64 ≡ 0 }
@@ -61,8 +61,8 @@ impl Ext {
         })
     }
 
-    /// Makes a file's set a new one, and marks the numbers that are in one of the two and not in both. Each set was in
-    /// range, as always.
+    /// Replaces a file's set, and marks the numbers that are in one of the old and the new set and not in both. Each set was in range, as
+    /// always.
     pub fn set_file(&mut self, file: u32, new: &[u16])
         requires file { file < length self.old.sets }
         requires few { length new.now ≤ MAX_DESCRIPTION }
@@ -137,7 +137,7 @@ impl Ext {
         self.counts[prop as usize] > 0
     }
 
-    /// Counts for each number how many of the files in row 0 have it, and answers how many files are in the row.
+    /// Counts for each number how many of the files in row 0 have it, and returns how many files are in the row.
     pub fn count_among(&self, found: &Rows, counts: &mut [u32]) -> u32
         requires row { 0 < length found.now.rows }
         requires bits { found.now.bits ≡ length self.now.sets }
@@ -162,7 +162,7 @@ impl Ext {
         many
     }
 
-    /// Leaves those of a row's files that have a number.
+    /// Keeps in a row only the files that have a number.
     pub fn and_row(&self, prop: u32, to: &mut Rows, row: u32)
         requires prop { prop < self.now.props }
         requires bits { to.old.bits ≡ length self.now.sets }
@@ -196,7 +196,7 @@ impl Ext {
         self.marks.fill(0, false);
     }
 
-    /// The rows by number: row p has bit i where file i has the number p.
+    /// The rows by number: row p has bit i exactly if file i has the number p.
     pub fn rows(&self) -> &Rows
         ensures shape { HasShape result.now self.now.props (length self.now.sets) }
         ensures values { (p i : ℕ) → p < self.now.props → i < length self.now.sets → get result.now p i ≡ has self.now p i }
@@ -205,15 +205,15 @@ impl Ext {
         &self.rows
     }
 
-    /// The edits of the rows since `new`: at most one for each time that a file got or lost a number. The count stays at
-    /// its last value, 2^64 - 1.
+    /// How many edits of the rows there were since `new`: at most as many as the times that a file got or lost a number. The count stays at
+    /// its largest value, 2^64 - 1.
     pub fn edits(&self) -> u64
         ensures { result ≡ self.now.edits }
     {
         self.rows.edits()
     }
 
-    /// Writes the files that have a number as bytes: bit i % 8 of byte i / 8, bit 0 the lowest, tells file i.
+    /// Writes the files that have a number as bytes: bit i % 8 of byte i / 8, bit 0 the lowest, says whether file i has it.
     pub fn row_bytes(&self, prop: u32, buf: &mut [u8])
         requires prop { prop < self.now.props }
         requires room { 8 * length buf.old ≡ length self.now.sets }

@@ -1,5 +1,5 @@
-//! Which file has which number: the numbers of each file, how many files have each number, and a row of bits for each
-//! number. A file's new set changes the rows of the numbers that it gets or loses, each once at most.
+//! Which file has which number: the numbers of each file, how many files have each number, and a row of bits for each number. A file's new
+//! set edits the rows at most as many times as there are numbers that the file gets or loses.
 #![tactic(auto)]
 
 mod ext;

@@ -4,11 +4,11 @@ use lis_limits::{MAX_DESCRIPTION, MAX_FILES};
 use std::alloc::{AllocError, Global};
 use std::marker::Model;
 
-/// Lists of at most `MAX_DESCRIPTION` numbers each. All memory is taken by `new`.
+/// Lists of at most `MAX_DESCRIPTION` numbers each. All memory is allocated by `new`.
 #[derive(Drop)]
 pub(crate) struct Lists {
-    // The numbers of list i are the first ones from place MAX_DESCRIPTION * i on. The vector reaches no further than some
-    // list has had numbers, so that memory beyond is not touched.
+    // The numbers of list i are the first ones from index MAX_DESCRIPTION * i on. The vector is only as long as some list has had numbers,
+    // so memory beyond is not touched.
     numbers: Vec<u16>,
     // How many numbers each list has.
     lengths: Vec<u32>,
@@ -26,7 +26,7 @@ impl Model for Lists {
 }
 
 impl Lists {
-    /// So many lists, all of them empty.
+    /// `lists` lists, all of them empty.
     pub(crate) fn new(alloc: Global, lists: u32) -> Result<Lists, AllocError>
         requires few { lists ≤ MAX_FILES }
         ensures { IfOk result (λ made. made ≡ replicate lists []) }
@@ -51,7 +51,7 @@ impl Lists {
         &self.numbers[start..start + many]
     }
 
-    /// Makes a list a new one.
+    /// Replaces a list.
     pub(crate) fn set(&mut self, list: u32, numbers: &[u16])
         requires list { list < length self.old }
         requires few { length numbers.now ≤ MAX_DESCRIPTION }
@@ -64,7 +64,7 @@ impl Lists {
     }
 }
 
-// Adds zeros up to so many numbers.
+// Adds zeros up to `len` numbers.
 fn fill_to(numbers: &mut Vec<u16>, len: usize)
     requires { len ≤ vec_capacity numbers.old }
     ensures same { (k : ℕ) → slice_index numbers.new.items k ≡ slice_index numbers.old.items k }
@@ -77,7 +77,7 @@ fn fill_to(numbers: &mut Vec<u16>, len: usize)
     }
 }
 
-// Writes numbers into places from `start` on.
+// Writes numbers at the indexes from `start` on.
 fn write(places: &mut [u16], start: usize, numbers: &[u16])
     requires { start + length numbers.now ≤ length places.old }
     ensures written { (k : ℕ) → k < length numbers.now

@@ -6,7 +6,7 @@ ghost use Rattle.lis_ext.specs.Inside.{CountsUp, Touches, PutsBits, has_alone};
 
 use lis_bits::Rows;
 
-// Whether the number is one of those that rise.
+// Whether the number is one of these, which rise.
 fn is_among(numbers: &[u16], number: u16) -> bool
     requires { IsStrictlyIncreasing numbers.now }
     ensures { result ≡ has_number numbers.now number }
@@ -14,7 +14,7 @@ fn is_among(numbers: &[u16], number: u16) -> bool
     numbers.binary_search(&number).is_ok()
 }
 
-// Counts one more of each number that is none of the others, and marks it.
+// Adds one to the count of each number that is none of the others, and marks the number.
 pub(crate) fn gain(
     counts: &mut [u32],
     marks: &mut Rows,
@@ -39,7 +39,7 @@ pub(crate) fn gain(
     }
 }
 
-// Counts one less of each number that is none of the others, and marks it.
+// Subtracts one from the count of each number that is none of the others, and marks the number.
 pub(crate) fn lose(
     counts: &mut [u32],
     marks: &mut Rows,
@@ -64,7 +64,7 @@ pub(crate) fn lose(
     }
 }
 
-// Gives the file's bit the value in the row of each number that is none of the others.
+// Sets the file's bit to the value in the row of each number that is none of the others.
 pub(crate) fn put_bits(
     rows: &mut Rows,
     props: u32,
@@ -88,7 +88,7 @@ pub(crate) fn put_bits(
     }
 }
 
-// Counts one more of each of these numbers.
+// Adds one to the count of each of these numbers.
 pub(crate) fn count_all(counts: &mut [u32], numbers: &[u16])
     requires in_counts { All (λ number. number < length counts.old) numbers.now }
     requires rise { IsStrictlyIncreasing numbers.now }

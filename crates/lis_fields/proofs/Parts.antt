@@ -84,7 +84,7 @@ slot_room version size small = by (version == 2) (nat_lt 16 (blocks_needed size)
     by true false e le = ltb-false 16 (blocks_needed size) e
     by false many e le = omega (arith, le)
 
--- where the content has few blocks, the slot numbers them itself, in both versions
+-- if the content has few blocks, the slot numbers them itself, in both versions
 pub slot_small : (version size : ℕ) → blocks_needed size ≤ 16 → slot_blocks version size ≡ blocks_needed size
 slot_small version size few = by (version == 2) (nat_lt 16 (blocks_needed size)) refl
   where
@@ -185,7 +185,7 @@ record_from version rec name small tags blocks =
     (and_from (is_file_name rec.name) (nat_le rec.size (file_limit version)) name (le-leb rec.size (file_limit version) small)) tags)
     blocks
 
--- what a slot of version 1 may tell, one of version 2 may
+-- what a slot of version 1 may say, one of version 2 may say too
 pub file_upgraded : (slot : FileSlot) → IsTrue (is_file 1 slot) → IsTrue (is_file 2 slot)
 file_upgraded FreeFile is = refl
 file_upgraded (Used rec) is =

@@ -1,11 +1,11 @@
--- Numbers that rise, and numbers of which none stands twice, one by one.
+-- Numbers that rise, and numbers of which none occurs twice, one by one.
 use Rattle.std.proofs.Common.{◌≡◌, refl, sym, ap, ap₂, ◌∙◌, ℕ, ◌+◌, ◌≤◌, nat_le, Bool, true, false, ◌&&◌, List, [], ◌∷◌, nat_cmp, is_lt, arith}
 use Rattle.std.specs.List.{list_all}
 use Rattle.std.proofs.lemmas.Bool.{and_parts, and_from, leb-true, le-leb}
 use Rattle.std.proofs.lemmas.Bool.Decides.{nat_tests}
 use Rattle.lis_graph.specs.Graph.{is_rising}
 
--- each number is above those before it, and the first at least so high
+-- each number is above those before it, and the first is at least `floor`
 abbrev pub rises_from : ℕ → List ℕ → Bool
 rises_from floor [] = true
 rises_from floor (n ∷ ns) = nat_le floor n && rises_from (n + 1) ns

@@ -61,7 +61,7 @@ unfolding super_with
 super_joined bytes gate limits parts =
     joined 12 bytes super_start (super_numbers limits ++ gate ∷ zeros 4071) parts.start (joined 12 (drop 12 bytes) (super_numbers limits) (gate ∷ zeros 4071) parts.spelled parts.end)
 
--- the gate that is written tells the version
+-- the gate that is written gives the version
 gate_tells : (version : ℕ) → IsTrue (is_version version) → gate_version (version_gate version) ≡ version
 gate_tells version h =
     elim (or_cases (version == 1) (version == 2) h) [
@@ -91,7 +91,7 @@ spelling_length limits bytes is = ap length is.spelled ∙ length_super is.gate 
 abbrev pub with_version : ℕ → Limits → Limits
 with_version version limits = limits_of version limits.files limits.props limits.blocks
 
--- with another byte 24, a spelling is one of the same limits in the version that this byte tells
+-- with another byte 24, a spelling is one of the same limits in the version of this byte
 pub super_regated : (gate : ℕ) (limits : Limits) (bytes : List ℕ) → SpellsSuper limits bytes → SpellsSuper (with_version (gate_version gate) limits) (take 24 bytes ++ (gate ∷ drop 25 bytes))
 unfolding super_with
 super_regated gate limits bytes is = record { gate = gate; tells = refl; spelled = ap (λ xs. take 24 xs ++ (gate ∷ drop 25 xs)) is.spelled }
@@ -100,7 +100,8 @@ super_regated gate limits bytes is = record { gate = gate; tells = refl; spelled
 pub super_upgraded : (limits : Limits) (bytes : List ℕ) → SpellsSuper limits bytes → SpellsSuper (with_version 2 limits) (take 24 bytes ++ (2 ∷ drop 25 bytes))
 super_upgraded limits bytes is = super_regated 2 limits bytes is
 
--- what differs from a spelling of version 1 in byte 24 alone, which may be anything, is a spelling of the same limits, or of these in version 2
+-- what differs from a spelling of version 1 only in byte 24, which may be anything, is a spelling of the same limits, or of these in
+-- version 2
 pub super_torn : (limits : Limits) (old new : List ℕ) → limits.version ≡ 1 → SpellsSuper limits old → length new ≡ length old → take 24 new ≡ take 24 old → drop 25 new ≡ drop 25 old
     → SpellsSuper limits new ⊎ SpellsSuper (with_version 2 limits) new
 super_torn limits old new one is len front behind = by (gate == 2) (subst (λ xs. SpellsSuper (with_version (gate_version gate) limits) xs) (sym whole) (super_regated gate limits old is))

@@ -1,4 +1,4 @@
--- Texts behind their length, with zeros behind them.
+-- Texts after their length, with zeros after them.
 use Rattle.std.proofs.Common.{◌≡◌, sym, ap, ap₂, ◌∙◌, ℕ, ◌≤◌, true, false, List, ◌∷◌, length, take, drop, IsTrue, arith, length-take-le}
 use Rattle.std.proofs.lemmas.Bool.{and_parts, leb-true}
 use Rattle.lis_words.specs.Words.{is_file_name}

@@ -1,4 +1,4 @@
--- Fields of fixed widths, read back from their spelling: zeros, numbers of four bytes, and bytes with zeros behind them.
+-- Fields of fixed widths, read back from their spelling: zeros, numbers of four bytes, and bytes with zeros after them.
 use Rattle.std.proofs.Common.{◌≡◌, refl, sym, ap, ap₂, ◌∙◌, ℕ, zero, suc, ◌-◌, ◌^◌, ◌<◌, ◌≤◌, ◌==◌, Bool, true, false, List, [], ◌∷◌, ◌++◌, length, take, drop, take_at, drop_at, take-append-drop, length-drop, length-take-le, arith}
 use Rattle.std.specs.List.{list_all}
 use Rattle.std.proofs.lemmas.Bool.{and_parts, eqb-true}
@@ -30,7 +30,7 @@ all_zeros (b ∷ bytes) all =
 pub zeros_of : (n : ℕ) (bytes : List ℕ) → length bytes ≡ n → are_zero bytes ≡ true → bytes ≡ zeros n
 zeros_of n bytes len all = all_zeros bytes all ∙ ap zeros len
 
--- no zeros, where a test found another byte
+-- no zeros, if a test found another byte
 pub not_zeros : (n : ℕ) (bytes : List ℕ) → bytes ≡ zeros n → are_zero bytes ≡ false → ⊥
 not_zeros n bytes e none = let pass = ap are_zero e ∙ zeros_pass n in absurd (cc)
 
@@ -49,7 +49,7 @@ pub same_number : (n a b : ℕ) → a < 256 ^ n → b < 256 ^ n → little_bytes
 same_number n a b small fits e =
     sym (little_number-reads_back n a [] small) ∙ (ap (λ xs. little_number n (xs ++ [])) e ∙ little_number-reads_back n b [] fits)
 
--- bytes with zeros behind them
+-- bytes with zeros after them
 pub padding_zero : (n len : ℕ) (bytes field : List ℕ) → field ≡ padded n bytes → length bytes ≡ len → are_zero (drop len field) ≡ true
 unfolding zeros
 padding_zero n len bytes field e same =

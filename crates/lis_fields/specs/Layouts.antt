@@ -18,11 +18,11 @@ use Rattle.lis_fields.specs.declared.slots.AxiomSlot.TheVariants.{Free as FreeAx
 use Rattle.lis_fields.specs.declared.slots.FileSlot.{FileSlot}
 use Rattle.lis_fields.specs.declared.slots.FileSlot.TheVariants.{Free as FreeFile, Used}
 
--- so many zero bytes
+-- n zero bytes
 unfoldable pub zeros : ℕ → List ℕ
 zeros n = replicate n 0
 
--- a text of at most 60 bytes behind its length
+-- a text of at most 60 bytes, after its length
 abbrev pub text_bytes : List ℕ → List ℕ
 text_bytes text = length text ∷ padded MAX_WORD text
 
@@ -34,7 +34,7 @@ super_start = codes "LISFS-IM" ++ little_bytes 4 1
 abbrev pub super_numbers : Limits → List ℕ
 super_numbers limits = little_bytes 4 limits.files ++ (little_bytes 4 limits.props ++ little_bytes 4 limits.blocks)
 
--- the version that a gate tells: 2 is version 2, and every other value is version 1
+-- the version of a gate: 2 is version 2, and every other value is version 1
 abbrev pub gate_version : ℕ → ℕ
 gate_version gate = if gate == 2 then 2 else 1
 
@@ -50,8 +50,8 @@ super_with gate limits = super_start ++ (super_numbers limits ++ gate ∷ zeros 
 abbrev pub super_bytes : Limits → List ℕ
 super_bytes limits = super_with (version_gate limits.version) limits
 
--- The bytes are a super block of these limits: their gate, whatever it is, tells the version. So limits of version 1 have many spellings,
--- and those of version 2 have one. It is not asked that the gate be below 256, since that of an image that a stop left may be any number.
+-- The bytes are a super block of these limits: their gate, whatever it is, gives the version. So limits of version 1 have many spellings,
+-- and those of version 2 have one. The gate need not be below 256, since that of an image that a stop left may be any number.
 pub record SpellsSuper (limits : Limits) (bytes : List ℕ) : Type 0 where
   pub gate : ℕ
   pub tells : gate_version gate ≡ limits.version
@@ -91,7 +91,7 @@ is_axiom (Pair left right) = nat_lt left (2 ^ 32 - 1) && nat_lt right (2 ^ 32 - 
 abbrev pub numbers : List ℕ → List ℕ
 numbers ns = padded 32 (flat_map (little_bytes 2) ns)
 
--- how a file slot that is used begins: a 1, the name, how many words the file was given, and a 0
+-- how a file slot that is used begins: a 1, the name, how many assigned words there are, and a 0
 abbrev pub file_start : List ℕ → ℕ → List ℕ
 file_start name count = 1 ∷ text_bytes name ++ count ∷ 0 ∷ []
 
@@ -109,8 +109,8 @@ file_bytes (Used rec) = record_bytes rec
 abbrev pub are_tags : List ℕ → Bool
 are_tags tags = nat_le (length tags) MAX_ASSIGNED && are_short tags && is_rising nat_cmp tags
 
--- How many block numbers the slot of a file of that version and size has: as many as the content has blocks. Where these are more than 16,
--- which version 2 alone has, it is one, that of the block that numbers them.
+-- How many block numbers the slot of a file of that version and size has: as many as the content has blocks. If these are more than 16,
+-- which only version 2 has, it is one, that of the index block.
 abbrev pub slot_blocks : ℕ → ℕ → ℕ
 slot_blocks version size = if (version == 2) && nat_lt SLOT_BLOCKS (blocks_needed size) then 1 else blocks_needed size
 
@@ -118,7 +118,7 @@ slot_blocks version size = if (version == 2) && nat_lt SLOT_BLOCKS (blocks_neede
 abbrev pub are_blocks : ℕ → ℕ → List ℕ → Bool
 are_blocks version size blocks = (length blocks == slot_blocks version size) && are_short blocks && are_distinct blocks
 
--- what a file slot of that version may tell of a file
+-- what a file slot of that version may say of a file
 abbrev pub is_record : ℕ → FileRecord → Bool
 is_record version rec =
     is_file_name rec.name && nat_le rec.size (file_limit version) && are_tags rec.tags && are_blocks version rec.size rec.blocks

@@ -1,11 +1,11 @@
--- What a file slot tells of a file.
+-- What a file slot says of a file.
 use Rattle.std.specs.Prelude.{ℕ, List}
 
 pub record FileRecord : Type 0 where
   pub name : List ℕ
-  -- how many bytes it has
+  -- how many bytes the file has
   pub size : ℕ
-  -- the slot numbers of the words that it was given
+  -- the slot numbers of the words that the file was assigned
   pub tags : List ℕ
-  -- the numbers of the data blocks of its bytes, in order; where they are more than 16, that of the block that numbers them, alone
+  -- the numbers of the data blocks of its bytes, in order; if they are more than 16, only that of the index block
   pub blocks : List ℕ

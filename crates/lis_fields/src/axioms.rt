@@ -8,7 +8,7 @@ use crate::fields::{read_number, write_number, write_zeros};
 use crate::slots::AxiomSlot;
 use lis_limits::AXIOM_LEN;
 
-/// Reads an axiom slot. None comes exactly where the bytes are no spelling of one.
+/// Reads an axiom slot. None exactly if the bytes are no spelling of one.
 #[tactic(auto, unfolding(crate::specs::Layouts::axiom_bytes))]
 pub fn read_axiom(bytes: &[u8]) -> Option<AxiomSlot>
     ensures spelled { IfSome result (λ slot. IsTrue (is_axiom slot) × (bytes.now ≡ axiom_bytes slot)) }

@@ -52,7 +52,7 @@ pub fn write_number(number: u32, field: &mut [u8])
     LittleEndian::write_u32(field, number);
 }
 
-/// The text of a field of 61 bytes. None comes exactly where the field spells no text.
+/// The text of a field of 61 bytes. None exactly if the field spells no text.
 pub fn read_text(field: &[u8]) -> Option<&[u8]>
     requires { length field.now ≡ MAX_WORD + 1 }
     ensures spelled { IfSome result (λ text. (length text.now ≤ MAX_WORD) × (field.now ≡ text_bytes text.now)) }
@@ -98,7 +98,7 @@ fn read_shorts(bytes: &[u8], count: usize) -> ArrayVec<u16, 16>
     numbers
 }
 
-/// So many numbers of a field of 32 bytes. None comes exactly where the field spells no such numbers.
+/// The `count` numbers of a field of 32 bytes. None exactly if the field spells no such numbers.
 pub fn read_numbers(field: &[u8], count: usize) -> Option<ArrayVec<u16, 16>>
     requires { length field.now ≡ 32 }
     ensures spelled { IfSome result (λ found.

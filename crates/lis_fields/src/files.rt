@@ -20,7 +20,7 @@ use arrayvec::ArrayVec;
 use lis_limits::{BLOCK_LEN, FILE_LEN, MAX_FILE, MAX_LARGE_FILE, SLOT_BLOCKS};
 use lis_words::{Name, read_name};
 
-/// How many bytes stand before the size.
+/// How many bytes are before the size.
 const START_LEN: usize = 64;
 
 /// How many bytes a file of the version may have.
@@ -76,7 +76,7 @@ fn are_distinct(numbers: &[u16]) -> bool
     true
 }
 
-/// The name, and how many words the file was given.
+/// The name, and how many assigned words there are.
 fn read_start(bytes: &[u8]) -> Option<(Name, u8)>
     requires { length bytes.now ≡ START_LEN }
     ensures spelled { IfSome result (λ found. IsTrue (is_file_name found.0) × (bytes.now ≡ file_start found.0 found.1)) }
@@ -96,7 +96,7 @@ fn read_start(bytes: &[u8]) -> Option<(Name, u8)>
     Some((name, *count))
 }
 
-/// The slot numbers of the words that a file was given.
+/// The slot numbers of the assigned words.
 fn read_tags(field: &[u8], count: usize) -> Option<ArrayVec<u16, 16>>
     requires { length field.now ≡ 32 }
     ensures spelled { IfSome result (λ found.
@@ -184,7 +184,7 @@ fn read_record(bytes: &[u8], version: u32) -> Option<FileRec>
     })
 }
 
-/// Reads a file slot of an image of that version. None comes exactly where the bytes are no spelling of one.
+/// Reads a file slot of an image of that version. None exactly if the bytes are no spelling of one.
 #[tactic(auto, unfolding(crate::specs::Layouts::file_bytes))]
 pub fn read_file(bytes: &[u8], version: u32) -> Option<FileSlot>
     ensures spelled { IfSome result (λ slot. IsTrue (is_file version slot) × (bytes.now ≡ file_bytes slot)) }

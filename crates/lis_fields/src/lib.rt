@@ -1,5 +1,4 @@
-//! Reads and writes the parts of an image: the super block, property slots, axiom slots and file slots.
-//! No call takes memory.
+//! Reads and writes the parts of an image: the super block, property slots, axiom slots and file slots. No call allocates memory.
 #![tactic(auto)]
 
 mod axioms;

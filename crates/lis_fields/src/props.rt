@@ -56,7 +56,7 @@ fn read_named(bytes: &[u8]) -> Option<(u8, Word)>
     Some((*kind, word))
 }
 
-/// The slot of that kind and word. None comes exactly where there is none.
+/// The slot of that kind and word. None exactly if there is none.
 #[tactic(auto, unfolding(crate::specs::Layouts::prop_bytes))]
 fn named_slot(kind: u8, word: Word) -> Option<PropSlot>
     ensures spelled { IfSome result (λ slot. IsTrue (is_prop slot) × (named kind word ≡ prop_bytes slot)) }
@@ -80,7 +80,7 @@ fn named_slot(kind: u8, word: Word) -> Option<PropSlot>
     }
 }
 
-/// Reads a property slot. None comes exactly where the bytes are no spelling of one.
+/// Reads a property slot. None exactly if the bytes are no spelling of one.
 #[tactic(auto, unfolding(crate::specs::Layouts::prop_bytes))]
 pub fn read_prop(bytes: &[u8]) -> Option<PropSlot>
     ensures spelled { IfSome result (λ slot. IsTrue (is_prop slot) × (bytes.now ≡ prop_bytes slot)) }

@@ -1,4 +1,4 @@
-//! What the parts of an image tell.
+//! What the parts of an image say.
 
 use arrayvec::ArrayVec;
 use lis_words::{Name, Word};
@@ -33,16 +33,16 @@ pub enum FileSlot {
     Used(FileRec),
 }
 
-/// What a file slot tells of its file.
+/// What a file slot says of its file.
 #[derive(Drop, Debug)]
 pub struct FileRec {
     pub name: Name,
     /// How many bytes the file has.
     pub size: u32,
-    /// The slot numbers of the words that the file was given.
+    /// The slot numbers of the words that the file was assigned.
     pub tags: ArrayVec<u16, 16>,
-    /// The numbers of the data blocks of its bytes, in order. Where they are more than 16, which version 2 alone
-    /// has, this is the number of the index block alone, which has theirs.
+    /// The numbers of the data blocks of its bytes, in order. If they are more than 16, which only version 2 has, this is the number of the
+    /// index block alone, which has theirs.
     pub blocks: ArrayVec<u16, 16>,
 }
 

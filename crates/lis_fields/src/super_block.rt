@@ -12,7 +12,7 @@ use lis_model::limits::{Limits, is_blocks_limit, is_files_limit, is_props_limit,
 /// How a super block begins, in both versions.
 const START: [u8; 12] = *b"LISFS-IM\x01\0\0\0";
 
-/// How many bytes stand before the limits.
+/// How many bytes are before the limits.
 const START_LEN: usize = 12;
 
 /// How many bytes the limits take.
@@ -34,7 +34,7 @@ fn are_in_range(limits: &Limits) -> bool
     is_version(u64::from(limits.version))
 }
 
-/// The version that a gate tells. A stopped write may leave any byte there, so all but one are version 1.
+/// The version of a gate. A stopped write may leave any byte there, so all values but one are version 1.
 fn gate_version(gate: u8) -> u32
     ensures { result ≡ gate_version gate }
 {
@@ -47,7 +47,7 @@ fn version_gate(version: u32) -> u8
     if version == 2 { 2 } else { 0 }
 }
 
-/// The limits of that version that the three numbers tell.
+/// The limits of that version with the three numbers.
 fn read_limits(bytes: &[u8], version: u32) -> Limits
     requires { length bytes.now ≡ 12 }
     ensures numbers { bytes.now ≡ super_numbers result }
@@ -63,7 +63,7 @@ fn read_limits(bytes: &[u8], version: u32) -> Limits
     }
 }
 
-/// Reads a super block. None comes exactly where the bytes are no spelling of one.
+/// Reads a super block. None exactly if the bytes are no spelling of one.
 #[tactic(auto, unfolding(crate::specs::Layouts::super_with))]
 pub fn read_super(bytes: &[u8]) -> Option<Limits>
     ensures spelled { IfSome result (λ limits. IsTrue (are_in_range limits) × SpellsSuper limits bytes.now) }
@@ -99,7 +99,7 @@ fn write_limits(limits: &Limits, bytes: &mut [u8])
     write_number(limits.blocks, blocks);
 }
 
-/// Writes a super block: of its spellings the one whose gate is 2 or 0.
+/// Writes a super block: of its spellings, the one whose gate is 2 or 0.
 #[tactic(auto, unfolding(crate::specs::Layouts::super_with))]
 pub fn write_super(limits: &Limits, bytes: &mut [u8])
     requires len { length bytes.old ≡ BLOCK_LEN }

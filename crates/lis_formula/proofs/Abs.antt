@@ -1,4 +1,4 @@
--- The reader's walk is the machine of the grammar, with signs and the first 64 nodes in place of trees.
+-- The reader's walk is the machine of the grammar, with signs and the first 64 nodes instead of trees.
 use Rattle.std.proofs.Common.{◌≡◌, ℕ, ◌<◌, ◌≤◌, Bool, true, false, cond, ◌==◌, inl, inr, nat_lt, Option, Some, None, List, [], ◌∷◌, ◌++◌, length, take, refl, ap, sym, ◌∙◌, arith, append_assoc, append-nil, length-append, codes}
 use Rattle.std.specs.Prelude.{option_map, option_and_then}
 use Rattle.std.proofs.lemmas.Bool.{lt-ltb, le-ltb, eq-eqb, ne_eqb, cases_lt}
@@ -129,7 +129,7 @@ step_nodes steps f =
     ap (λ xs. xs ++ tree_node_list f) (append-nil (nodes_of steps))
     ∙ (ap (λ xs. nodes_of steps ++ xs) (sym (append-nil (tree_node_list f))) ∙ (sym (nodes_of-append steps (f ∷ [])) ∙ sym (append-nil (nodes_of (steps ++ f ∷ [])))))
 
--- the sign behind it
+-- the sign after it
 
 bar_waits : (d : Done) → Begins (with_sign Bar (abs_done d)) ≡ abs (after_bar d)
 unfolding held_of

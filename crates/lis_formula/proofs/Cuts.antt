@@ -11,7 +11,7 @@ cut_back (text ∷ stack) = two (drop_at (stacked_text stack) text (length (stac
     two : {x : List ℕ} {xs : List (List ℕ)} → x ≡ text → xs ≡ stack → x ∷ xs ≡ text ∷ stack
     two e f = cc
 
--- where the array and the starts are those of a stack, they are cut into it
+-- if the array and the starts are those of a stack, they are cut into it
 pub cut_is : (text starts : List ℕ) (stack : List (List ℕ)) → text ≡ stacked_text stack → starts ≡ starts_of stack → cut_at starts text ≡ stack
 cut_is text starts stack e f = rw (e, f) (cut_back stack)
 

@@ -12,7 +12,7 @@ use Rattle.lis_formula.specs.Walk.Walk.{Begins}
 use Rattle.lis_formula.specs.Paths.{IsPath, IsNoPath}
 use Rattle.lis_formula.proofs.Abs.{abs, abs_step, kept_steps, abs_end}
 
--- the machine takes the text, and the reader stands where it does
+-- the machine reads the text, and the reader is in the machine's state
 pub record Reaches (text : List ℕ) (w : Walk) : Type 0 where
   pub s : Machine
   pub runs : run (Wants [] []) text ≡ Some s

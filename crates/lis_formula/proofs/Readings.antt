@@ -1,4 +1,4 @@
--- From what was kept of a path to the answer to the whole text.
+-- From what was kept of a path to the result for the whole text.
 use Rattle.std.proofs.Common.{◌≡◌, ℕ, ◌+◌, ◌<◌, ◌≤◌, suc, Bool, true, false, not, ◌==◌, inl, inr, Some, None, List, [], ◌∷◌, length, refl, ap, sym, subst, ◌∙◌, arith}
 use Rattle.std.specs.Prelude.{Result, Ok, Err, IfOk}
 use Rattle.std.proofs.lemmas.Bool.{false≢true, ltb-true, ltb-false}
@@ -104,7 +104,7 @@ unfolding text_steps broken_at
 nothing_read [] h = (refl, refl)
 nothing_read (b ∷ text) h = absurd (omega arith)
 
--- the answers
+-- the results
 
 no_formula : (text : List ℕ) → text_steps text ≡ None → (rooted : Bool) (steps : List Formula) → Reads text rooted steps → ⊥
 no_formula text h rooted steps r = none (sym h ∙ reads_complete text rooted steps r)

@@ -1,4 +1,4 @@
--- What a text makes of a place, by what the text reads to.
+-- What a text makes of a place, by what the text reads as.
 use Rattle.std.proofs.Common.{◌≡◌, ℕ, ◌≤◌, Bool, true, false, inl, inr, Option, Some, None, List, ◌++◌, length, ap, sym, subst, ◌∙◌, codes, nat_lt, MatchOption}
 use Rattle.std.specs.Prelude.{Result, Ok, Err, IfSome}
 use Rattle.std.specs.Option.{ok_or}
@@ -53,7 +53,7 @@ fault_answered place text TooLarge h a e = elim e [
 fault_answered place text (Syntax k) h a e =
     read_text place text h a.0 ∙ ap (resolved_path place) e.0
 
--- a text that is no formula breaks where its answer says
+-- a text that is no formula breaks where its result says
 pub broken_there : (text : List ℕ) (fault : FormulaFault) → Computes text (Err fault) → (k : ℕ) → fault ≡ Syntax k → k ≡ broken_at text
 broken_there text TooLarge e k is = absurd (cc)
 broken_there text (Syntax j) e k is = subst (λ n. n ≡ broken_at text) (same is) e.1

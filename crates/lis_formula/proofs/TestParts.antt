@@ -31,7 +31,7 @@ digits_front [] = refl
 digits_front (d ∷ digits) =
     rw (ne_eqb (length (d ∷ digits)) 0 (λ e. absurd (omega (arith, e))), lt-ltb 0 (length (d ∷ digits)) (omega arith)) refl
 
--- the text has the sign in front, or it is a front of the sign, or neither
+-- the text begins with the sign, or it is a prefix of the sign, or neither
 pub front_behind : (sign text digits : List ℕ) → after_sign sign text ≡ Some digits → is_test_front sign text ≡ is_test_front [] digits
 front_behind [] text digits h = let same : text ≡ digits = cc in ap (λ xs. is_test_front [] xs) same
 front_behind (c ∷ sign) [] digits h = absurd (cc)

@@ -16,7 +16,7 @@ use Rattle.lis_formula.specs.Answers.{Computes}
 use Rattle.lis_formula.specs.declared.fault.FormulaFault.{FormulaFault}
 use Rattle.lis_formula.specs.declared.fault.FormulaFault.TheVariants.{TooLarge, Syntax}
 
--- the words that a text names, where it reads
+-- the words that a text names, if it reads
 pub path_named : (text : List ℕ) (rooted : Bool) (steps : List Formula) (nodes : List Node) → text_steps text ≡ Some (rooted, steps) → nodes ≡ nodes_of steps
     → flat_map node_words nodes ≡ text_words text
 unfolding text_words
@@ -29,7 +29,7 @@ none_above = refl
 above : (text : List ℕ) → same_word text (codes "..") ≡ true → text ≡ codes ".."
 above text h = (bytes_eq-Decides text (codes "..")).0 h
 
--- a text that is no formula within the limits leads to a place only where it is `..`
+-- a text that is no formula within the limits leads to a place only if it is `..`
 by_resolution : (place new : List Formula) (text : List ℕ) (up : Bool) → same_word text (codes "..") ≡ up
     → (up ≡ false → resolved place text ≡ BeyondLimits) → resolved place text ≡ NewPlace new → [] ≡ text_words text
 by_resolution place new text true is beyond leads = none_above ∙ ap (λ t. text_words t) (sym (above text is))
@@ -56,7 +56,7 @@ none_named place new text TooLarge (inl long) leads =
 none_named place new text TooLarge (inr h) leads =
     by_resolution place new text (same_word text (codes "..")) refl (λ other. large_beyond place text h.0 other h.1 h.2) leads
 
--- ---- where the words are known
+-- ---- whether the words are known
 all_of_nodes : (p : List ℕ → Bool) (nodes : List Node) → list_all (λ node. list_all p (node_words node)) nodes ≡ list_all p (flat_map node_words nodes)
 all_of_nodes p [] = refl
 all_of_nodes p (node ∷ nodes) = ap (λ b. list_all p (node_words node) && b) (all_of_nodes p nodes) ∙ sym (list_all-append p (node_words node) (flat_map node_words nodes))

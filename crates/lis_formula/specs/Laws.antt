@@ -7,12 +7,12 @@ use Rattle.lis_grammar.specs.Printing.{printed_rooted}
 use Rattle.lis_grammar.specs.Places.{AreFit, IsPlace, is_place, resolved}
 use Rattle.lis_grammar.specs.Places.Resolution.{NewPlace}
 
--- a text reads to one path at most
+-- a text reads as at most one path
 abbrev pub OneReading : Type 0
 OneReading = (text : List ℕ) (rooted also : Bool) (steps more : List Formula) → Reads text rooted steps → Reads text also more
     → (rooted ≡ also) × (steps ≡ more)
 
--- a printed place with a slash in front, and the slash alone for the root, reads to a rooted path with the same steps
+-- a printed place with a slash in front, or the slash alone for the root, reads as a rooted path with the same steps
 abbrev pub PrintedReads : Type 0
 PrintedReads = (steps : List Formula) → IsPlace steps → Reads (printed_rooted steps) true steps
 

@@ -1,4 +1,4 @@
--- What reading a path comes to.
+-- The results of reading a path.
 use Rattle.std.specs.Prelude.{◌≡◌, ℕ, ◌==◌, Bool, false, not, Some, None, Result, Ok, Err, List, [], ◌∷◌}
 use Rattle.lis_grammar.specs.Formula.{Formula}
 use Rattle.lis_grammar.specs.Machine.{lived, path_steps}
@@ -15,7 +15,7 @@ use Rattle.lis_formula.specs.Walk.{first_64}
 abbrev pub IsPath : List ℕ → Nodes → Type 0
 IsPath text kept = (steps : List Formula) × (path_steps text ≡ Some steps) × (kept ≡ first_64 (nodes_of steps))
 
--- the text is no path, and the machine takes so many of its bytes
+-- the text is no path, and the machine reads k of its bytes
 abbrev pub IsNoPath : List ℕ → ℕ → Type 0
 IsNoPath text k = (path_steps text ≡ None) × (k ≡ lived (Wants [] []) text)
 
@@ -24,7 +24,7 @@ abbrev pub begins_here : List ℕ → Bool
 begins_here [] = false
 begins_here (b ∷ text) = not (b == 47)
 
--- what is kept of the nodes comes to this path, or is that of no place
+-- what is kept of the nodes makes this path, or is that of no place
 abbrev pub IsWhole : Bool → Nodes → Result Path FormulaFault → Type 0
 IsWhole rooted kept (Ok path) =
     (path.rooted ≡ rooted) × IsPlace path.place × ((steps : List Formula) → kept ≡ first_64 (nodes_of steps) → path.place ≡ steps)

@@ -1,4 +1,4 @@
--- Texts one behind another in one array, as a stack of them, the last first.
+-- Texts in sequence in one array, as a stack of them, the last first.
 use Rattle.std.specs.Prelude.{◌≡◌, ℕ, List, [], ◌∷◌, ◌++◌, length, take, drop}
 
 -- all texts in order, and where each of them begins, the last first

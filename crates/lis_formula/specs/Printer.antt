@@ -30,7 +30,7 @@ with_text stack Not = with_front 33 stack
 with_text stack And = wrapped 47 stack
 with_text stack Or = wrapped bar_byte stack
 
--- the last text, behind all others with a slash behind each
+-- the last text, after all others with a slash after each
 abbrev pub chained : List (List ℕ) → List ℕ → List ℕ
 chained [] text = text
 chained (before ∷ stack) text = chained stack (before ++ 47 ∷ text)

@@ -1,4 +1,4 @@
--- Where a reader stands.
+-- The state of a reader.
 use Rattle.std.specs.Prelude.{ℕ, List}
 use Rattle.lis_formula.specs.declared.reader.Held.{Held}
 use Rattle.lis_formula.specs.declared.reader.Phase.{Phase}

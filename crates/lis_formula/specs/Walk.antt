@@ -1,4 +1,4 @@
--- The machine of the grammar with signs and nodes in place of trees: what the reader keeps.
+-- The machine of the grammar with signs and nodes instead of trees: what the reader keeps.
 use Rattle.std.specs.Prelude.{ℕ, ◌==◌, nat_lt, Bool, true, false, if◌then◌else◌, Option, Some, None, option_map, option_and_then, List, [], ◌∷◌, ◌++◌, length, take}
 use Rattle.lis_limits.specs.declared.TheConstants.{MAX_NODES}
 use Rattle.lis_words.specs.Bytes.{bar_byte}
@@ -12,7 +12,7 @@ use Rattle.lis_formula.specs.declared.reader.Held.{Held}
 use Rattle.lis_formula.specs.Signs.{is_top, without_top, is_none_left}
 use Rattle.lis_formula.specs.Operands.{operand_node}
 
--- what is kept of so many nodes
+-- what is kept of these nodes
 abbrev pub first_64 : List Node → Nodes
 first_64 nodes = record { nodes = record { items = take MAX_NODES nodes }; over = nat_lt MAX_NODES (length nodes) }
 
@@ -55,7 +55,7 @@ is_outermost held = is_none_left held.signs
 abbrev pub slashed : Held → Held
 slashed held = if is_outermost held then held else with_sign Slash held
 
--- where the reader stands: an operand is to begin; the bytes of a word or a test so far; an operand has ended
+-- the state of the reader: an operand must begin; the bytes of a word or a test so far; an operand has ended
 pub data Walk : Type 0 where
   Begins : Held → Walk
   Inside : Held → List ℕ → Walk

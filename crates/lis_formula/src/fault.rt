@@ -5,6 +5,6 @@
 pub enum FormulaFault {
     /// The text has more than 1,024 bytes, or the place would be beyond its limits.
     TooLarge,
-    /// The text is no formula: the longest prefix of it that begins some formula has so many bytes.
+    /// The text is no formula: the longest prefix of it that begins some formula has this many bytes.
     Syntax(u32),
 }

@@ -13,7 +13,7 @@ pub fn printed_reads()
     ensures { PrintedReads }
 {}
 
-/// What is computed of a text is what the grammar reads, and where it breaks off.
+/// What `text_steps` and `broken_at` compute of a text is what the grammar says.
 pub fn text_is_read()
     ensures steps { StepsAreRead }
     ensures broken { BreaksWhereSaid }

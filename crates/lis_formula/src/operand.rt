@@ -7,7 +7,7 @@ ghost use Rattle.lis_formula.specs.Operands.{operand_node, test_node, counted_nu
 use lis_place::Node;
 use lis_words::{is_count, is_word, read_count, read_formula_word};
 
-/// What stands behind the sign of a test.
+/// What follows the sign of a test.
 fn after_sign<'a>(sign: &[u8], text: &'a [u8]) -> Option<&'a [u8]>
     ensures { MatchOption result
         (after_sign sign.now text.now ≡ None)

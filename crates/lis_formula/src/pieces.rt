@@ -1,4 +1,4 @@
-//! Texts that are put together in place: a printed place is made of them without memory taken.
+//! Texts that are put together in place: a printed place is made of them without an allocation.
 
 ghost use Rattle.std.specs.Prelude.{◌≡◌, ◌+◌, ◌<◌, ◌≤◌, [], ◌∷◌, length};
 ghost use Rattle.lis_formula.specs.Pieces.{stacked_text, with_front, with_end, with_joint};
@@ -8,7 +8,7 @@ use lis_limits::{MAX_FORMULA, MAX_NODES};
 use lis_place::Text;
 use std::marker::Model;
 
-/// Texts one behind another in one array, seen as a stack of them, the last first.
+/// Texts in sequence in one array, seen as a stack of them, the last first.
 #[derive(Drop)]
 pub struct Pieces {
     text: ArrayVec<u8, MAX_FORMULA>,

@@ -85,8 +85,7 @@ fn slash() -> Text
     pieces.into_text()
 }
 
-/// The printed form of a place: its steps joined by `/`, with parentheses round each `|` and each `/` inside a step, and `/`
-/// for the root.
+/// The printed form of a place: its steps joined by `/`, with parentheses around each `|` and each `/` inside a step, and `/` for the root.
 pub fn print(place: &Place) -> Text
     ensures { result ≡ printed place.now }
 {

@@ -49,7 +49,7 @@ fn whole(rooted: bool, kept: &Nodes) -> Result<Path, FormulaFault>
     }
 }
 
-/// Reads what stands behind the slash in front of a text.
+/// Reads what follows the slash at the start of a text.
 fn from_root(path: &[u8]) -> Result<Path, FormulaFault>
     requires { length path.now < MAX_FORMULA }
     ensures computes { Computes (47 ∷ path.now) result }
@@ -97,9 +97,8 @@ fn read_short(text: &[u8]) -> Result<Path, FormulaFault>
     }
 }
 
-/// Reads a formula text: to a path exactly where it has at most 1,024 bytes, is in the grammar and its steps are a place.
-/// A text that is too long is too large whatever it holds, and one outside the grammar is a fault of syntax before it
-/// could be too large a place.
+/// Reads a formula text. It gives a path exactly if the text has at most 1,024 bytes and is in the grammar, and its steps are a place. A
+/// text that is too long is `TooLarge`, whatever it holds. A text outside the grammar is a fault of syntax, however many nodes it has.
 pub fn read_formula(text: &[u8]) -> Result<Path, FormulaFault>
     ensures answers { ReadsTo text.now result }
     ensures computes { Computes text.now result }

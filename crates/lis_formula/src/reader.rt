@@ -12,7 +12,7 @@ use arrayvec::ArrayVec;
 use lis_limits::MAX_FORMULA;
 use lis_place::Node;
 
-/// The first 64 nodes that were read, and whether there were more: a formula is judged to its end before it is too large.
+/// The first 64 nodes that were read, and whether there were more: a formula is read to its end before it is refused as too large.
 #[derive(Drop)]
 pub struct Nodes {
     pub nodes: ArrayVec<Node, 64>,
@@ -93,7 +93,7 @@ impl Held {
         }
     }
 
-    /// A slash behind an operand: outside of parentheses it ends a step.
+    /// A slash after an operand: outside of parentheses it ends a step.
     fn slash(&mut self)
         requires { length self.old.signs < MAX_FORMULA }
         ensures held { self.new ≡ slashed self.old }
@@ -105,7 +105,7 @@ impl Held {
     }
 }
 
-/// Where the reader stands: an operand is to begin, or is being read, or has ended.
+/// The state of the reader: an operand must begin, or is being read, or has ended.
 #[derive(Clone, Copy, Debug)]
 pub enum Phase {
     Wants,
@@ -174,7 +174,7 @@ impl Reader {
         true
     }
 
-    /// A closing parenthesis behind an operand.
+    /// A closing parenthesis after an operand.
     fn unwrap(&mut self) -> bool
         ensures walk { MatchBool result
             (unwrapped self.old.held ≡ Some (walk_of self.new))
@@ -189,7 +189,7 @@ impl Reader {
         true
     }
 
-    /// A byte behind an operand that has ended.
+    /// A byte after an operand that has ended.
     fn join(&mut self, byte: u8) -> bool
         requires { length self.old.held.signs < MAX_FORMULA }
         ensures walk { MatchBool result
@@ -247,7 +247,7 @@ impl Reader {
         self.join(byte)
     }
 
-    /// Takes one byte. False comes exactly where no path begins with what was read and this byte.
+    /// Reads one byte. False exactly if no path begins with what was read and this byte.
     pub fn take(&mut self, byte: u8) -> bool
         requires { length self.old.held.signs < MAX_FORMULA }
         ensures walk { MatchBool result
@@ -274,7 +274,7 @@ impl Reader {
         }
     }
 
-    /// Ends the path. False comes exactly where what was read is no whole path.
+    /// Ends the path. False exactly if what was read is no whole path.
     pub fn end(&mut self) -> bool
         ensures { MatchBool result
             (walk_end (walk_of self.old) ≡ Some self.new.held.kept)

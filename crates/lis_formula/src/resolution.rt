@@ -31,8 +31,8 @@ fn follow(place: &Place, path: Path) -> Result<Place, FormulaFault>
     place.appended(&steps).ok_or(FormulaFault::TooLarge)
 }
 
-/// Leads from a place to a new one. The text `..` leads to the place without its last step; any other text is read as a
-/// formula, and leads from the root where it is rooted and else from the place.
+/// Leads from a place to a new one. The text `..` leads to the place without its last step. Any other text is read as a formula, and leads
+/// from the root if it is rooted, and otherwise from the place.
 pub fn resolve(place: &Place, text: &[u8]) -> Result<Place, FormulaFault>
     ensures place { IsResolution (resolved place.now text.now) result }
     ensures broken { (k : ℕ) → result ≡ Err (Syntax k) → k ≡ broken_at text.now }

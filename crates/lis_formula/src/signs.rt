@@ -7,7 +7,7 @@ use arrayvec::ArrayVec;
 use lis_limits::MAX_FORMULA;
 use std::marker::Model;
 
-/// A sign that waits for an operand behind it.
+/// A sign that waits for an operand after it.
 #[derive(Clone, Copy, Debug)]
 pub enum Sign {
     Mark,
@@ -74,7 +74,7 @@ impl Signs {
         self.held.push(sign);
     }
 
-    /// Takes the last sign away where it is this one.
+    /// Removes the last sign if it is this one.
     pub fn pop_if(&mut self, sign: Sign) -> bool
         ensures top { result ≡ is_top sign self.old }
         ensures rest { self.new ≡ (if result then without_top self.old else self.old) }

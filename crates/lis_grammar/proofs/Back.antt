@@ -1,4 +1,4 @@
--- From the machine to the grammar: how the text is made that the machine has taken, by what waits and where it stands.
+-- From the machine to the grammar: the form of the text that the machine has read, by what is pending and by the machine's state.
 use Rattle.std.proofs.Common.{◌≡◌, ℕ, Bool, true, false, cond, ◌==◌, ◌⊎◌, inl, inr, Option, Some, None, List, [], ◌∷◌, ◌++◌, refl, ap, sym, ◌∙◌, append_assoc, append-nil}
 use Rattle.std.proofs.lemmas.Bool.{eqb-true, false≢true}
 use Rattle.lis_grammar.specs.Formula.{Formula}
@@ -15,7 +15,7 @@ use Rattle.lis_grammar.specs.Machine.Machine.{Wants, Within, Complete}
 use Rattle.lis_grammar.proofs.Operands.{operand_neg}
 use Rattle.lis_grammar.proofs.Forth.{conjunction-append}
 
--- what may stand behind a list of pendings as their operand
+-- what may follow a list of pendings as their operand
 
 abbrev pub takes_neg : List Pending → Bool
 takes_neg [] = true
@@ -38,7 +38,7 @@ takes_path (Open ∷ ops) = true
 takes_path (BarAfter f ∷ ops) = false
 takes_path (SlashAfter f ∷ ops) = false
 
--- the text so far, where an operand is to begin
+-- the text so far, if an operand must begin
 abbrev pub Wanted : List Pending → List Formula → List ℕ → Type 0
 Wanted [] steps text = ((steps ≡ []) × (text ≡ [])) ⊎ ((path : List ℕ) × (text ≡ path ++ 47 ∷ []) × Path path steps)
 Wanted (Bang ∷ ops) steps text = (front : List ℕ) × (text ≡ front ++ 33 ∷ []) × Wanted ops steps front
@@ -48,7 +48,7 @@ Wanted (BarAfter f ∷ ops) steps text =
 Wanted (SlashAfter f ∷ ops) steps text =
     (front : List ℕ) × (left : List ℕ) × (fs : List Formula) × (text ≡ front ++ (left ++ 47 ∷ [])) × Path left fs × (f ≡ conjunction fs) × (takes_path ops ≡ true) × Wanted ops steps front
 
--- the text so far, where an operand has ended
+-- the text so far, if an operand has ended
 pub record Negs (ops : List Pending) (steps : List Formula) (f : Formula) (text : List ℕ) : Type 0 where
   pub before : List ℕ
   pub last : List ℕ

@@ -25,7 +25,7 @@ run-append s (c ∷ a) b = by (step s c) (λ t. run-append t a b)
     by None more = refl
     by (Some t) more = more t
 
--- behind an operand that has ended, a sign leads where `joint` says
+-- after an operand that has ended, a sign leads where `joint` says
 
 step_joint : (s : Machine) (b : ℕ) (d : Done) → is_joint b ≡ true → settled s ≡ Some d → step s b ≡ joint b d
 step_joint (Wants ops steps) b d j h = absurd (cc)
@@ -43,7 +43,7 @@ joined s text b more d j h = run-append s text (b ∷ more) ∙ by (run s text) 
     by None h = absurd (cc)
     by (Some t) h = ap (λ o. and_then o (λ u. run u more)) (step_joint t b d j h)
 
--- a word or a test is taken whole
+-- a word or a test is read whole
 
 pub operand_runs : (ops : List Pending) (steps : List Formula) (text : List ℕ) (f : Formula) → operand text ≡ Some f → is_operand_front text ≡ true
     → and_then (run (Wants ops steps) text) settled ≡ Some (complete ops steps f)
@@ -64,7 +64,7 @@ conjunction-append _ _ g (slash text more fs f p a) = some fs f g
     some [] f g = refl
     some (h ∷ fs) f g = fold_more h (fs ++ f ∷ []) g
 
--- the texts of the grammar, for whatever waits before them
+-- the texts of the grammar, for whatever is pending before them
 
 pub record Ends (s : Machine) (text : List ℕ) (close : Done → Done) (end : Done) : Type 0 where
   pub d : Done
@@ -184,7 +184,7 @@ reads_complete _ _ _ (from_root text fs p) = root_complete text fs (path_complet
 some_pair : (a b : Bool × List Formula) → Some a ≡ Some b → (a.0 ≡ b.0) × (a.1 ≡ b.1)
 some_pair a b h = let e : a ≡ b = cc in (ap (λ p. p.0) e, ap (λ p. p.1) e)
 
--- a text has one reading at most
+-- a text has at most one reading
 pub one_reading : (text : List ℕ) (rooted also : Bool) (fs gs : List Formula) → Reads text rooted fs → Reads text also gs → (rooted ≡ also) × (fs ≡ gs)
 one_reading text rooted also fs gs r s =
     some_pair (rooted, fs) (also, gs) (sym (reads_complete text rooted fs r) ∙ reads_complete text also gs s)

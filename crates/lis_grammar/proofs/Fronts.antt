@@ -1,4 +1,4 @@
--- Where a text breaks off: what the machine takes is exactly what some formula text begins with.
+-- At which byte a text breaks off: the machine reads exactly what some formula text begins with.
 use Rattle.std.proofs.Common.{◌≡◌, ℕ, ◌≤◌, suc, zero, Bool, true, false, cond, ◌&&◌, ◌||◌, ◌==◌, inl, inr, Option, Some, None, List, [], ◌∷◌, ◌++◌, length, take, refl, ap, sym, ◌∙◌, arith, append_assoc, append-nil, codes, nat_lt, nat_le}
 use Rattle.std.specs.Char.{is_ascii_digit}
 use Rattle.std.specs.List.{list_all}
@@ -25,7 +25,7 @@ pub record BeginsPath (text : List ℕ) : Type 0 where
   pub fs : List Formula
   pub path : Path (text ++ rest) fs
 
--- whatever waits, an operand can be followed so that a path is complete
+-- whatever is pending, an operand can be followed so that a path is complete
 record CanClose (ops : List Pending) (text : List ℕ) : Type 0 where
   behind_neg : (last : List ℕ) (f : Formula) → Neg last f → BeginsPath (text ++ last)
   behind_alt : takes_alt ops ≡ true → (last : List ℕ) (f : Formula) → Alt last f → BeginsPath (text ++ last)
@@ -97,7 +97,7 @@ can_close (SlashAfter g ∷ ops) steps text w =
       behind_path = λ t last fs p. absurd (false≢true t);
     }
 
--- a front of a word or a test can be ended
+-- a prefix of a word or a test can be completed
 
 record EndsTest (sign inside : List ℕ) : Type 0 where
   more : List ℕ
@@ -145,7 +145,7 @@ operand_ends inside h = elim (or_cases (is_word inside || is_test_front (codes "
 longer : (text more : List ℕ) → BeginsPath (text ++ more) → BeginsPath text
 longer text more p = record { rest = more ++ p.rest; fs = p.fs; path = rw (sym (append_assoc text more p.rest)) p.path }
 
--- wherever the machine stands, the text can be ended
+-- in each state of the machine the text can be completed
 stands_ends : (s : Machine) (text : List ℕ) → Stands s text → BeginsPath text
 stands_ends (Wants ops steps) text st =
     longer text (codes "a") ((can_close ops steps text st).behind_neg (codes "a") (Has (codes "a")) (word (codes "a") refl))

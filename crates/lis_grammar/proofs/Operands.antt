@@ -1,4 +1,4 @@
--- Words and tests as the machine takes them: every front of one is taken, and its bytes are no sign of a formula.
+-- Words and tests as the machine reads them: it takes every prefix of one, and its bytes are no sign of a formula.
 use Rattle.std.proofs.Common.{◌≡◌, ℕ, ◌+◌, ◌<◌, ◌≤◌, Bool, true, false, not, cond, ◌&&◌, ◌||◌, ◌==◌, ◌⊎◌, inl, inr, Option, Some, None, List, [], ◌∷◌, ◌++◌, length, refl, ap, sym, ◌∙◌, arith, append_assoc, append-nil, length-append, nat_lt, nat_le, codes}
 use Rattle.std.specs.Char.{is_ascii_digit}
 use Rattle.std.specs.List.{list_all, list_any}
@@ -95,7 +95,7 @@ word_from_colon text has =
       | inr valued ↦ or_right (is_plain_word text || is_head text) _ valued
     ]
 
--- every front of a word but the empty one is a word
+-- every prefix of a word except the empty one is a word
 
 plain_parts : (text : List ℕ) → is_plain_word text ≡ true → (length text ≤ 60) × (begins_with_stop text ≡ false) × (list_all is_plain_byte text ≡ true)
 plain_parts text h =
@@ -250,7 +250,7 @@ front_runs ops steps b text h =
     rw (no_letter b 33 refl letter, no_letter b 40 refl letter, front_closed (b ∷ []) text h)
     (within_runs ops steps (b ∷ []) text h)
 
--- what an operand reads to
+-- what an operand reads as
 
 pub operand_word : (text : List ℕ) → is_word text ≡ true → operand text ≡ Some (Has text)
 operand_word text h = cond-true (is_word text) _ _ h
@@ -327,7 +327,7 @@ count_front digits h =
     let both = and_parts (nat_lt 0 (length digits) && short) (list_all is_ascii_digit digits) h in
     and_from short _ (and_parts (nat_lt 0 (length digits)) short both.0).1 both.1
 
--- an operand is a front of itself
+-- an operand is a prefix of itself
 pub word_front : (text : List ℕ) → is_word text ≡ true → is_operand_front text ≡ true
 word_front text h = or_left _ _ (or_left _ _ h)
 

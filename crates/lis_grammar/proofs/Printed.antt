@@ -62,7 +62,7 @@ unfolding printed
 path_printed step steps fit =
     path_behind (printed_tree step) (step ∷ []) steps (alt (printed_tree step) step (neg (printed_tree step) step (tree_reads step fit.0))) fit.1
 
--- `/` and the printed place, or `/` alone for the root, reads to a rooted path with the same steps
+-- `/` and the printed place, or `/` alone for the root, reads as a rooted path with the same steps
 pub printed_reads : (steps : List Formula) → AreFit steps → Reads (printed_rooted steps) true steps
 printed_reads [] fit = root
 printed_reads (step ∷ steps) fit = from_root (printed (step ∷ steps)) (step ∷ steps) (path_printed step steps fit)

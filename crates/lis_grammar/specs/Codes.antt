@@ -1,4 +1,4 @@
--- The code of formulas, by which a proof keeps them as values: the tree in postfix order, and the stack on which a postfix order is read.
+-- The code of formulas, by which a proof stores them as values: the tree in postfix order, and the stack with which that order is read.
 use Rattle.std.specs.Prelude.{◌≡◌, ◌⊎◌, ℕ, Bool, true, false, Option, Some, None, List, [], ◌∷◌, ◌++◌, refl}
 use Rattle.std.specs.Coded.{Coded, code_by, coded⊎, coded_ℕ, coded_bool, coded_option, coded_list}
 use Rattle.std.proofs.Common.{inl, inr, ap, sym, ◌∙◌, append_assoc, append-nil}
@@ -25,7 +25,7 @@ abbrev pub negated : List Formula → List Formula
 negated [] = []
 negated (f ∷ stack) = Negation f ∷ stack
 
--- the last two formulas as one; a stack of fewer stays
+-- the last two formulas as one; a stack of fewer than two stays
 abbrev pub combined : (Formula → Formula → Formula) → List Formula → List Formula
 combined join [] = []
 combined join (g ∷ []) = g ∷ []

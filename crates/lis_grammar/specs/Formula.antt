@@ -5,7 +5,7 @@ use Rattle.std.specs.List.{flat_map}
 pub data Formula : Type 0 where
   -- the description has the word
   Has : List ℕ → Formula
-  -- the file has at least, or fewer than, so many bytes
+  -- the file has at least, or fewer than, this many bytes
   SizeAtLeast : ℕ → Formula
   SizeBelow : ℕ → Formula
   Negation : Formula → Formula

@@ -5,7 +5,7 @@
 --   alt     = neg , { "|" , neg }
 --   neg     = "!" , neg | "(" , path , ")" | word | "size>=" count | "size<" count
 --
--- "|" and "/" group to the left. No blanks stand in a formula.
+-- "|" and "/" group to the left. A formula has no blanks.
 use Rattle.std.specs.Prelude.{ℕ, ◌≤◌, Bool, true, false, List, [], ◌∷◌, ◌++◌, length, take, codes, IsTrue}
 use Rattle.std.specs.List.{fold}
 use Rattle.lis_words.specs.Bytes.{bar_byte}
@@ -13,7 +13,7 @@ use Rattle.lis_words.specs.Words.{is_word, is_count, count_of}
 use Rattle.lis_grammar.specs.Formula.{Formula}
 use Rattle.lis_grammar.specs.Formula.Formula.{Has, SizeAtLeast, SizeBelow, Negation, Both, Either}
 
--- the steps of a path as one tree, which is what a path in parentheses reads to
+-- the steps of a path as one tree, which is what a path in parentheses reads as
 abbrev pub conjunction : List Formula → Formula
 conjunction [] = Has []
 conjunction (step ∷ steps) = fold Both step steps

@@ -1,4 +1,4 @@
--- The grammar as a machine that takes a text byte by byte. It computes the steps of a text, and where a text breaks off.
+-- The grammar as a machine that reads a text byte by byte. It computes the steps of a text, and at which byte a text breaks off.
 use Rattle.std.specs.Prelude.{ℕ, ◌==◌, nat_le, Bool, true, false, ◌&&◌, ◌||◌, if◌then◌else◌, Option, Some, None, List, [], ◌∷◌, ◌++◌, length, codes, suc}
 use Rattle.std.specs.Char.{is_ascii_digit}
 use Rattle.std.specs.List.{list_all}
@@ -8,7 +8,7 @@ use Rattle.lis_words.specs.Words.{is_word, is_count, count_of}
 use Rattle.lis_grammar.specs.Formula.{Formula}
 use Rattle.lis_grammar.specs.Formula.Formula.{Has, SizeAtLeast, SizeBelow, Negation, Both, Either}
 
--- what waits for an operand: a sign, with its left operand
+-- what waits for an operand: a sign, with its left operand if it has one
 pub data Pending : Type 0 where
   Bang : Pending
   Open : Pending
@@ -19,7 +19,7 @@ pub data Pending : Type 0 where
 pub data Done : Type 0 where
   done : List Pending → List Formula → Formula → Done
 
--- an operand is to begin; the bytes of a word or a test so far; an operand has ended
+-- an operand must begin; the bytes of a word or a test so far; an operand has ended
 pub data Machine : Type 0 where
   Wants : List Pending → List Formula → Machine
   Within : List Pending → List Formula → List ℕ → Machine
@@ -73,7 +73,7 @@ settled (Wants ops steps) = None
 settled (Within ops steps text) = completed ops steps (operand text)
 settled (Complete d) = Some d
 
--- then a sign behind it closes what it groups under
+-- then a sign after it applies the pending signs that group before it
 
 abbrev pub close_bar : Done → Done
 close_bar (done [] steps f) = done [] steps f
@@ -104,7 +104,7 @@ after_paren (done (Open ∷ ops) steps f) = Some (Complete (complete ops steps f
 after_paren (done (BarAfter g ∷ ops) steps f) = None
 after_paren (done (SlashAfter g ∷ ops) steps f) = None
 
--- a bar, a slash or a closing parenthesis behind an operand
+-- a bar, a slash or a closing parenthesis after an operand
 abbrev pub joint : ℕ → Done → Option Machine
 joint b d =
     if b == bar_byte then Some (after_bar (close_bar d))
@@ -152,7 +152,7 @@ abbrev pub root_steps : List ℕ → Option (List Formula)
 root_steps [] = Some []
 root_steps (b ∷ text) = path_steps (b ∷ text)
 
--- what a formula text reads to: whether it is rooted, and its steps; None where the text is no formula
+-- what a formula text reads as: whether it is rooted, and its steps; None if the text is no formula
 unfoldable pub text_steps : List ℕ → Option (Bool × List Formula)
 text_steps [] = None
 text_steps (b ∷ text) =

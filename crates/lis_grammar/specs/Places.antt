@@ -69,7 +69,7 @@ without_last (step ∷ more ∷ steps) = step ∷ without_last (more ∷ steps)
 abbrev pub within_limits : List Formula → Resolution
 within_limits steps = if is_place steps then NewPlace steps else BeyondLimits
 
--- the steps of a path from a place: behind the place's own, or from the root
+-- the steps of a path from a place: after the place's own steps, or from the root
 abbrev pub steps_from : List Formula → Bool → List Formula → List Formula
 steps_from place rooted steps = if rooted then steps else place ++ steps
 
@@ -89,6 +89,6 @@ abbrev pub path_words : Option (Bool × List Formula) → List (List ℕ)
 path_words None = []
 path_words (Some path) = steps_words path.1
 
--- the words that a formula text names; none where the text is no formula
+-- the words that a formula text names; none if the text is no formula
 unfoldable pub text_words : List ℕ → List (List ℕ)
 text_words text = path_words (text_steps text)

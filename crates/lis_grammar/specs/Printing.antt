@@ -5,7 +5,7 @@ use Rattle.lis_words.specs.Bytes.{bar_byte}
 use Rattle.lis_grammar.specs.Formula.{Formula}
 use Rattle.lis_grammar.specs.Formula.Formula.{Has, SizeAtLeast, SizeBelow, Negation, Both, Either}
 
--- a word as its bytes, a number without leading zeros, and parentheses round each `|` and each `/`
+-- a word as its bytes, a number without leading zeros, and parentheses around each `|` and each `/`
 abbrev pub printed_tree : Formula → List ℕ
 printed_tree (Has word) = word
 printed_tree (SizeAtLeast n) = codes "size>=" ++ decimal n
@@ -14,12 +14,12 @@ printed_tree (Negation f) = 33 ∷ printed_tree f
 printed_tree (Both f g) = 40 ∷ ((printed_tree f ++ 47 ∷ printed_tree g) ++ 41 ∷ [])
 printed_tree (Either f g) = 40 ∷ ((printed_tree f ++ bar_byte ∷ printed_tree g) ++ 41 ∷ [])
 
--- each step behind the slash that joins it
+-- each step after the slash that joins it
 abbrev pub printed_behind : List Formula → List ℕ
 printed_behind [] = []
 printed_behind (step ∷ steps) = (47 ∷ printed_tree step) ++ printed_behind steps
 
--- a place: its steps joined by `/`, and `/` where it has none
+-- a place: its steps joined by `/`, or `/` if it has none
 unfoldable pub printed : List Formula → List ℕ
 printed [] = 47 ∷ []
 printed (step ∷ steps) = printed_tree step ++ printed_behind steps

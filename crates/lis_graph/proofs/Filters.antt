@@ -1,4 +1,4 @@
--- What passes a test: how much, and by which tests the same.
+-- What passes a test: how many elements, and when two tests pass the same ones.
 use Rattle.std.proofs.Common.{◌≡◌, ◌<◌, ◌≤◌, Bool, true, false, cond, not, ◌&&◌, ◌||◌, List, [], ◌∷◌, length, filter, refl, ap, inl, inr, arith}
 use Rattle.std.specs.List.{list_any}
 use Rattle.lis_graph.proofs.Members.{Among}
@@ -23,7 +23,7 @@ module _ {K : Type 0} where
       by true false e rest = rw e rest
       by false b e rest = rest
 
-  -- no more than there are
+  -- no more elements pass than there are
   pub filter_le : (f : K → Bool) (xs : List K) → length (filter f xs) ≤ length xs
   filter_le f [] = omega arith
   filter_le f (x ∷ xs) = by (f x) (filter_le f xs)
@@ -32,7 +32,7 @@ module _ {K : Type 0} where
       by true more = omega (arith, more)
       by false more = omega (arith, more)
 
-  -- and fewer, where some member fails
+  -- and fewer, if some member fails
   pub filter_fewer : (f : K → Bool) (xs : List K) → list_any (λ x. not (f x)) xs ≡ true → length (filter f xs) < length xs
   filter_fewer f [] h = absurd cc
   filter_fewer f (x ∷ xs) h = by (f x) h (filter_fewer f xs)

@@ -1,4 +1,5 @@
--- Laws on chains of links. What a point entails is what chains lead to, edges without a circle make no ties, and the order of edges does not matter.
+-- Laws on chains of links. What a point entails is what chains lead to, edges without a cycle make no ties, and the order of edges does not
+-- matter.
 use Rattle.std.proofs.Common.{◌≡◌, ◌⊎◌, ℕ, zero, suc, ◌+◌, Bool, true, false, not, ◌&&◌, cond, List, [], ◌∷◌, Decides, refl, sym, ap, subst, ◌∙◌, inl, inr, arith}
 use Rattle.std.specs.declared.cmp.Ordering.{Ordering}
 use Rattle.std.specs.Cmp.{IsTotalOrder}
@@ -28,7 +29,7 @@ module _ {K : Type 0} (own : K → List K) where
   pub entails_within : (edges more : List (K × K)) → ((e : K × K) → Among edges e → Among more e) → (p q : K) → Entails own edges p q → Entails own more p q
   entails_within edges more within p q e = (e.0, chain_within edges more within e.0 p q e.1)
 
-  -- fewer edges have no circle where more have none
+  -- fewer edges have no cycle if more have none
   pub acyclic_within : (edges more : List (K × K)) → ((e : K × K) → Among edges e → Among more e) → Acyclic own more → Acyclic own edges
   acyclic_within edges more within none n p c = none n p (chain_within edges more within (suc n) p p c)
 
@@ -171,7 +172,7 @@ module _ {K : Type 0} (eq : K → K → Bool) (cmp : K → K → Ordering) (own 
       let found = up_through edge edges p q (up_from_chain edges left.0 p edge.0 left.1) (up_from_chain edges right.0 edge.1 q right.1) in
       entails_from_up (edge ∷ edges) p q found
 
-  -- ---- edges without a circle
+  -- ---- edges without a cycle
   first_ends : (edge : K × K) (edges : List (K × K)) → is_acyclic eq cmp own (edge ∷ edges) ≡ true → Among (up eq cmp own edges edge.1) edge.0 → ⊥
   first_ends edge edges h back = by (has eq (up eq cmp own edges edge.1) edge.0) (has_from_among eq decides (up eq cmp own edges edge.1) edge.0 back) h
     where
@@ -243,12 +244,12 @@ module _ {K : Type 0} (eq : K → K → Bool) (cmp : K → K → Ordering) (own 
   pub acyclic_decides : (edges : List (K × K)) → Decides (is_acyclic eq cmp own edges) (Acyclic own edges)
   acyclic_decides edges = (acyclic_from edges, is_acyclic_from edges)
 
-  -- where edges have no circle, two points that entail each other are one
+  -- if edges have no cycle, two points that entail each other are one
   pub no_ties : (edges : List (K × K)) → Acyclic own edges → (p q : K) → Entails own edges p q → Entails own edges q p → p ≡ q
   no_ties edges none p q there back =
       up_antisym edges (is_acyclic_from edges none) p q (up_from_chain edges there.0 p q there.1) (up_from_chain edges back.0 q p back.1)
 
-  -- one more edge makes no circle exactly where its right side does not entail its left one
+  -- one more edge makes no cycle if its right side does not entail its left one
   pub acyclic_cons : (edge : K × K) (edges : List (K × K)) → Acyclic own edges → (Entails own edges edge.1 edge.0 → ⊥) → Acyclic own (edge ∷ edges)
   acyclic_cons edge edges none open_end = acyclic_from (edge ∷ edges) (by (has eq (up eq cmp own edges edge.1) edge.0) refl (is_acyclic_from edges none))
     where

@@ -1,4 +1,5 @@
--- The members of lists: `Among` goes by cases, and `Contains` by an index. A name `among_F` takes a member of F apart, and `F_among` makes one.
+-- The members of lists: `Among` is by cases, and `Contains` by an index. A lemma `among_F` says what a member of F is, and `F_among` makes
+-- one.
 use Rattle.std.proofs.Common.{◌≡◌, ◌⊎◌, ℕ, zero, suc, ◌<◌, Bool, true, false, cond, ◌||◌, List, [], ◌∷◌, ◌++◌, length, get_or, map, filter, Decides, refl, sym, ap, subst, ◌∙◌, inl, inr, arith}
 use Rattle.std.specs.declared.cmp.Ordering.{Ordering}
 use Rattle.std.specs.declared.cmp.Ordering.TheVariants.{Less, Equal, Greater}
@@ -14,7 +15,7 @@ Among [] x = ⊥
 Among (y ∷ ys) x = (y ≡ x) ⊎ Among ys x
 
 module _ {K : Type 0} where
-  -- ---- the two words
+  -- ---- `Among` and `Contains`
   pub among_from_contains : (xs : List K) (x : K) → Contains xs x → Among xs x
   among_from_contains [] x h = absurd (omega (arith, h.1))
   among_from_contains (y ∷ ys) x h = by h.0 h.1 h.2 (among_from_contains ys x)

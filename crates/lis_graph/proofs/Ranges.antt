@@ -1,4 +1,4 @@
--- Numbers in a row, and those of them that pass a test.
+-- Consecutive numbers, and those of them that pass a test.
 use Rattle.std.proofs.Common.{◌≡◌, refl, ◌⊎◌, ℕ, zero, suc, ◌+◌, ◌<◌, ◌≤◌, Bool, true, false, ◌||◌, List, [], ◌∷◌, length, filter, cond, inl, inr, arith}
 use Rattle.std.specs.declared.cmp.Ordering.TheVariants.{Less}
 use Rattle.std.specs.List.{range_with_len, AllByRecursion}
@@ -31,7 +31,7 @@ pub sorted_range : (a n : ℕ) → IsStrictlySortedBy nat_cmp (range_with_len a 
 sorted_range a zero = sorted_nil nat_cmp nat_cmp_total
 sorted_range a (suc n) = sorted_cons nat_cmp nat_cmp_total a (range_with_len (a + 1) n) (below_range a (a + 1) n (omega arith)) (sorted_range (a + 1) n)
 
--- as many pass one of two tests as pass each of them, where none passes both
+-- if none passes both of two tests, the number that pass either is the sum of the numbers that pass each
 pub filter_apart : {X : Type 0} (f g : X → Bool) (xs : List X) → ((x : X) → f x ≡ true → g x ≡ false) → length (filter f xs) + length (filter g xs) ≡ length (filter (λ x. f x || g x) xs)
 filter_apart f g [] apart = omega arith
 filter_apart f g (x ∷ xs) apart = by (f x) (g x) (apart x) (filter_apart f g xs apart)

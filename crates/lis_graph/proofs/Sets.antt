@@ -1,4 +1,4 @@
--- Sorted sets: two with the same members are one list, and points put in stay sorted.
+-- Sorted sets: two with the same members are one list, and a set stays sorted when points are inserted.
 use Rattle.std.proofs.Common.{◌<◌, ◌≤◌, length, arith, ◌⊎◌, ◌≡◌, Bool, true, false, ◌&&◌, List, [], ◌∷◌, refl, sym, ap, subst, ◌∙◌, inl, inr}
 use Rattle.std.specs.declared.cmp.Ordering.{Ordering}
 use Rattle.std.specs.declared.cmp.Ordering.TheVariants.{Less, Equal, Greater}
@@ -62,7 +62,7 @@ module _ {K : Type 0} (cmp : K → K → Ordering) (order : IsTotalOrder cmp) wh
       (λ z m. same_tails y x z ys xs (sym heads) sy m (from z (inr m))) in
       ap (λ z. z ∷ xs) heads ∙ ap (λ zs. y ∷ zs) tails
 
-  -- ---- points put in
+  -- ---- points that are inserted
   above_all : (k x : K) (xs : List K) → cmp k x ≡ Less → AllByRecursion (λ y. cmp x y ≡ Less) xs → AllByRecursion (λ y. cmp k y ≡ Less) xs
   above_all k x [] less all = tt
   above_all k x (y ∷ ys) less all = (order.trans k x y less all.0, above_all k x ys less all.1)
@@ -127,7 +127,7 @@ module _ {K : Type 0} (cmp : K → K → Ordering) (order : IsTotalOrder cmp) wh
           later z (inr in_xs) (inl is_y) = absurd (not_both_below y x (holds_among (λ w. cmp y w ≡ Less) ys x (below_tail y ys sy) deep)
               (subst (λ w. cmp x w ≡ Less) (sym is_y) (holds_among (λ w. cmp x w ≡ Less) xs z (below_tail x xs sx) in_xs)))
 
-  -- and fewer, where a member of the other is none of its own
+  -- and fewer, if the other one has a member that the set lacks
   pub members_lt : (xs ys : List K) (k : K) → IsStrictlySortedBy cmp xs → IsStrictlySortedBy cmp ys → ((z : K) → Among xs z → Among ys z) → Among ys k → (Among xs k → ⊥) → length xs < length ys
   members_lt xs [] k sx sy to m none = absurd m
   members_lt [] (y ∷ ys) k sx sy to m none = omega arith

@@ -36,11 +36,11 @@ module _ (v : Seen) (found : Rows) where
       let parts = among_filter (λ (g : Placed). get found 0 g.slot) v.files source.0 source.1 in
       (source.0, contains_from_among v.files source.0 parts.0, parts.1, source.2)
 
--- the set of a file's slot tells which words the file has
+-- the set of a file's slot says which words the file has
 pub has_told : (v : Seen) (e : ext.Ext) → TellsFiles v e → (w : List ℕ × ℕ) → Contains v.words w → (number : ℕ) → w.1 ≡ number → (f : Placed) → Contains v.files f → ext.has e number f.slot ≡ has_word f.entry.words w.0
 has_told v e tells w there number numbered f here = ap (λ n. ext.has e n f.slot) (sym numbered) ∙ tells.told w f there here
 
--- some slot found passes where some file found does
+-- some slot found passes exactly if some file found does
 some_found : (v : Seen) (found : Rows) → IsView v → Finds v found → (test : ℕ → Bool) (passes : Entry → Bool) → ((f : Placed) → Contains v.files f → test f.slot ≡ passes f.entry)
     → nat_lt 0 (length (numbers_where v.limits.files (λ k. get found 0 k && test k))) ≡ list_any passes (found_files v found)
 some_found v found kept finds test passes told = one_answer (nat_lt 0 (length (numbers_where v.limits.files (λ k. get found 0 k && test k)))) (list_any passes (found_files v found)) (only, all) (λ e. e, λ e. e)
@@ -61,14 +61,14 @@ some_found v found kept finds test passes told = one_answer (nat_lt 0 (length (n
         let f = from_found v found some.0 some.1 in
         lt-ltb 0 (length (numbers_where v.limits.files (λ k. get found 0 k && test k))) (where_some v.limits.files (λ k. get found 0 k && test k) f.0.slot (kept.slots f.0 f.1) (and_from (get found 0 f.0.slot) (test f.0.slot) f.2 (told f.0 f.1 ∙ (ap passes f.3 ∙ some.2))))
 
--- fewer than all, where there are others
+-- fewer than all, exactly if there are others
 fewer : (a b : ℕ) → nat_lt a (a + b) ≡ nat_lt 0 b
 fewer a b = one_answer (nat_lt a (a + b)) (nat_lt 0 b) (λ e. let lt = ltb-true a (a + b) e in lt-ltb 0 b (omega arith), λ e. let lt = ltb-true 0 b e in lt-ltb a (a + b) (omega arith)) (λ e. e, λ e. e)
 
 splits : (count many a b : ℕ) (some others : Bool) → count ≡ a → many ≡ a + b → nat_lt 0 a ≡ some → nat_lt 0 b ≡ others → (nat_lt 0 count && nat_lt count many) ≡ (some && others)
 splits count many a b some others count_is many_is has lacks = rw (count_is, many_is, fewer a b, has, lacks) refl
 
--- what counts of the files found tell
+-- what counts of the files found say
 pub split_by : (v : Seen) → IsView v → (found : Rows) → Finds v found → (e : ext.Ext) → TellsFiles v e → (counts : List ℕ) (many : ℕ) → length counts ≡ v.limits.props
     → ((p : ℕ) → p < e.props → get_or counts p 0 ≡ ext.count_where e (get found 0) p) → many ≡ length (numbers_where (length e.sets) (get found 0)) → SplitBy v (found_files v found) counts many
 split_by v kept found finds e tells counts many room counted total = record { room = room; told = λ w there. told w there }

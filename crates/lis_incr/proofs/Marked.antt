@@ -35,7 +35,7 @@ module _ (v : Seen) (test : List ℕ → Bool) where
   pub marked_all : (k : ℕ) (marks : Rows) → take k v.words ≡ v.words → MarkedTo v test k marks → AreMarked v test marks
   marked_all k marks all to = record { shape = to.shape; marked = λ n lt. to.marked n lt ∙ ap (λ (ws : List (List ℕ × ℕ)). number_passes ws test n) all }
 
-  -- a word is marked where it passes
+  -- a word is marked exactly if it passes
   pub marked_at : IsView v → (marks : Rows) → AreMarked v test marks → (w : List ℕ × ℕ) → Contains v.words w → get marks 0 w.1 ≡ test w.0
   marked_at kept marks are w there = are.marked w.1 (kept.numbers w there) ∙ one_answer (number_passes v.words test w.1) (test w.0) (only, all) (λ e. e, λ e. e)
     where

@@ -27,7 +27,7 @@ use Rattle.lis_incr.specs.Walking.{is_step}
 use Rattle.lis_incr.specs.Ways.{word_of, words_of, AreKnown, file_here, further, Walks}
 use Rattle.lis_incr.proofs.Shown.{found_is}
 
--- ---- the first member that passes, place by place
+-- ---- the first member that passes, index by index
 module _ {X : Type 0} (test : X → Bool) (xs : List X) (k : ℕ) (x : X) (none : find test (take k xs) ≡ None) (at : slice_get xs k ≡ Some x) where
   one_more : take (k + 1) xs ≡ take k xs ++ x ∷ []
   one_more = take_more xs k x (slice_get_within xs k x at) ∙ ap (λ y. take k xs ++ y ∷ []) (get_or_from_slice_get xs k x x at)
@@ -107,7 +107,7 @@ module _ (v : Seen) (kept : IsView v) (found : Rows) (place : List Formula) (tel
       let open_way : is_local (extension (table_of v) place) e ≡ false = ap (λ (files : List Entry). is_local files e) (sym (found_is v kept found place tells)) ∙ ap not covered in
       rw (open_way, word)
 
-  -- the files of the place with one step more
+  -- the files of the place with one more step
   pub tells_on : (new : Rows) (w : List ℕ × ℕ) → Contains v.words w → ((slot : ℕ) → slot < v.limits.files → get new 0 slot ≡ true → get found 0 slot ≡ true)
       → ((f : Placed) → Contains v.files f → get new 0 f.slot ≡ (get found 0 f.slot && has_word f.entry.words w.0)) → TellsTest v (get new 0) (holds_all (place ++ step_of w.0 ∷ []))
   tells_on new w there fewer told = record {
@@ -174,7 +174,7 @@ module _ {X : Type 0} (test : X → Bool) (xs : List X) (k : ℕ) (x : X) (at : 
   pub none_counted : test x ≡ false → length (filter test (take k xs)) ≡ length (filter test (take (k + 1) xs))
   none_counted fails = sym (counted ∙ (ap (λ n. length (filter test (take k xs)) + n) (rw fails) ∙ add-zero (length (filter test (take k xs)))))
 
--- ---- places
+-- ---- indexes
 pub word_at : (v : Seen) (k : ℕ) (w : List ℕ × ℕ) → slice_get v.words k ≡ Some w → word_of v k ≡ w.0
 word_at v k w at = ap (λ o. unwrap_or (option_map (λ (x : List ℕ × ℕ). x.0) o) []) at
 
@@ -192,7 +192,7 @@ steps_next v items steps step place w lt few is at =
     let first : get_or (take steps items) step 0 ≡ place = get_or-take steps items step 0 lt ∙ (get_or_default items step 0 place (omega arith) ∙ sym is) in
     ap (words_of v) (drop_more (take steps items) step 0 here) ∙ ap (λ (word : List ℕ). word ∷ words_of v (drop (step + 1) (take steps items))) (ap (word_of v) first ∙ word_at v place w at)
 
--- one step more
+-- one more step
 pub walks_on : (v : Seen) → IsView v → (old new : Rows) (left : ℕ) (places : List ℕ) (k : ℕ) (w : List ℕ × ℕ) (place : List Formula) (e : Entry) (all : List (List ℕ)) → Walks v old (suc left) places place e all
     → slice_get v.words k ≡ Some w → find (is_step v old e) v.words ≡ Some w → ((slot : ℕ) → slot < v.limits.files → get new 0 slot ≡ true → get old 0 slot ≡ true)
     → ((f : Placed) → Contains v.files f → get new 0 f.slot ≡ (get old 0 f.slot && has_word f.entry.words w.0)) → Walks v new left (places ++ k ∷ []) place e all

@@ -24,7 +24,7 @@ filter_mapped test h (x ∷ xs) = by (test (h x)) (filter_mapped test h xs)
     by true rest = ap (λ ys. h x ∷ ys) rest
     by false rest = rest
 
--- ---- what is shown from a place on
+-- ---- what is shown from an index on
 module _ {K : Type 0} (test : K → Bool) (name : K → List ℕ) (xs : List K) where
   abbrev pub shown_from : ℕ → List (List ℕ)
   shown_from k = map name (filter test (drop k xs))

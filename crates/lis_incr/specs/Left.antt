@@ -8,7 +8,7 @@ use Rattle.lis_incr.specs.Ways.{AreKnown, words_of}
 abbrev pub words_left : Seen → Scratch → ℕ → List (List ℕ)
 words_left v s step = words_of v (drop step (take s.steps s.route.items))
 
--- the places of a route are those of words
+-- the indexes of a route are those of words
 pub record HasRoute (v : Seen) (s : Scratch) : Type 0 where
   pub within : s.steps ≤ length s.route.items
   pub known : AreKnown v (take s.steps s.route.items)

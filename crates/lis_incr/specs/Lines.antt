@@ -15,11 +15,11 @@ lines_of words names = map (λ word. Prop word) words ++ map (λ name. File name
 abbrev pub listing : Table → List Formula → List Line
 listing t place = lines_of (increments t place) (map (λ (e : Entry). e.name) (locals t place))
 
--- the words from a place on whose numbers are in the row
+-- the words from an index on whose numbers are in the row
 abbrev pub words_from : Seen → Rows → ℕ → List (List ℕ)
 words_from v marks place = map (λ w. w.0) (filter (λ w. get marks 0 w.1) (drop place v.words))
 
--- the names of the files from a place on whose slots are in the row
+-- the names of the files from an index on whose slots are in the row
 abbrev pub names_from : Seen → Rows → ℕ → List (List ℕ)
 names_from v marks place = map (λ (f : Placed). f.entry.name) (filter (λ (f : Placed). get marks 0 f.slot) (drop place v.files))
 

@@ -11,7 +11,7 @@ use Rattle.lis_eval.specs.View.{Placed, Seen, file_in}
 abbrev pub found_files : Seen → Rows → List Entry
 found_files v found = map (λ (f : Placed). f.entry) (filter (λ (f : Placed). get found 0 f.slot) v.files)
 
--- the row has slots of files alone
+-- the row has only slots of files
 pub record Finds (v : Seen) (found : Rows) : Type 0 where
   pub shape : HasShape found 65 v.limits.files
   pub none : (slot : ℕ) → slot < v.limits.files → file_in v slot ≡ None → get found 0 slot ≡ false
@@ -39,11 +39,11 @@ pub record LeavesLocals (v : Seen) (files : List Entry) (found locals : Rows) : 
 abbrev pub is_covered : List Entry → List (List ℕ × ℕ) → Entry → Bool
 is_covered files words e = list_any (λ (w : List ℕ × ℕ). is_candidate files w.0 && has_word e.words w.0) words
 
--- the counts tell that some file has the word of a number, and not each of so many
+-- the counts say that some of the files has the word of a number, and not all `many` of them
 abbrev pub splits_by : List ℕ → ℕ → ℕ → Bool
 splits_by counts many number = nat_lt 0 (slice_index counts number) && nat_lt (slice_index counts number) many
 
--- the counts tell of each word whether it splits the files
+-- the counts say of each word whether it splits the files
 pub record SplitBy (v : Seen) (files : List Entry) (counts : List ℕ) (many : ℕ) : Type 0 where
   pub room : length counts ≡ v.limits.props
   pub told : (w : List ℕ × ℕ) → Contains v.words w → splits_by counts many w.1 ≡ is_candidate files w.0

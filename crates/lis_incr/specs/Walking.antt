@@ -11,7 +11,7 @@ use Rattle.lis_incr.specs.Marked.{found_files}
 abbrev pub is_step : Seen → Rows → Entry → List ℕ × ℕ → Bool
 is_step v found e w = is_increment (table_of v) (found_files v found) w.0 && has_word e.words w.0
 
--- the place and the number are those of the first such word, or there is none
+-- the index and the number are those of the first such word, or there is none
 abbrev pub IsFirst : Seen → Rows → Entry → Option (ℕ × ℕ) → Type 0
 IsFirst v found e r = MatchOption r (find (is_step v found e) v.words ≡ None)
     (λ p. (w : List ℕ × ℕ) × (slice_get v.words p.0 ≡ Some w) × (w.1 ≡ p.1) × (find (is_step v found e) v.words ≡ Some w))

@@ -1,4 +1,4 @@
--- The steps of a route, as places in the order of words.
+-- The steps of a route, as indexes in the order of words.
 use Rattle.std.specs.Prelude.{◌≡◌, ℕ, ◌<◌, Option, Some, List, [], ◌++◌, length, map, find, unwrap_or, slice_get, slice_index_or}
 use Rattle.std.specs.Option.{option_map}
 use Rattle.lis_words.specs.Words.{same_word}
@@ -10,14 +10,14 @@ use Rattle.lis_model.specs.Listing.{extension, holds_all}
 use Rattle.lis_model.specs.Route.{route, route_within}
 use Rattle.lis_eval.specs.View.{Seen, TellsTest, table_of}
 
--- the word at a place
+-- the word at an index
 abbrev pub word_of : Seen → ℕ → List ℕ
 word_of v k = unwrap_or (option_map (λ (w : List ℕ × ℕ). w.0) (slice_get v.words k)) []
 
 abbrev pub words_of : Seen → List ℕ → List (List ℕ)
 words_of v places = map (word_of v) places
 
--- each place is that of a word
+-- each index is that of a word
 abbrev pub AreKnown : Seen → List ℕ → Type 0
 AreKnown v places = (i : ℕ) → i < length places → slice_index_or places i 0 < length v.words
 

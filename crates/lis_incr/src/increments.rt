@@ -1,4 +1,4 @@
-//! Which of the words marked entail no other of them.
+//! Which of the marked words entail no other marked word.
 
 ghost use Rattle.std.specs.Prelude.{◌≡◌, ℕ, ◌<◌, ◌==◌, ◌&&◌, ◌||◌, Bool, List};
 ghost use Rattle.std.specs.List.{Contains};
@@ -10,7 +10,7 @@ use lis_bits::Rows;
 use lis_eval::View;
 use lis_taxonomy::Search;
 
-// Whether the word of a number is marked and entails no other that is.
+// Whether the word of a number is marked and entails no other marked word.
 pub(crate) fn is_top<V: View>(view: &V, marks: &Rows, search: &mut Search, number: u32) -> bool
     requires kept { IsView (V.seen view.now) }
     requires marks { HasShape marks.now 1 (V.seen view.now).limits.props }
@@ -21,7 +21,7 @@ pub(crate) fn is_top<V: View>(view: &V, marks: &Rows, search: &mut Search, numbe
     marks.get(0, number) && !view.taxonomy().leads_to_marked(number, marks, search)
 }
 
-// Marks the word of a number as an increment where it is one.
+// Marks the word of a number as an increment if it is one.
 fn mark_increment<V: View>(
     view: &V,
     candidates: &Rows,

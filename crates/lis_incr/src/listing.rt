@@ -28,7 +28,7 @@ pub enum Line {
 pub struct Listing<'a, V: View> {
     view: &'a V,
     scratch: &'a Scratch,
-    // The places, in the order of words and of names, from which on lines are left.
+    // The indexes, in the order of words and of names, from which on lines are left.
     word: u32,
     file: u32,
 }
@@ -48,7 +48,7 @@ impl<'a, V: View> Model for Listing<'a, V> {
         × (l.word ≤ (V.seen l.view.now).limits.props) × (l.file ≤ (V.seen l.view.now).limits.files) };
 }
 
-// The next word from a place on whose number is marked, and the place behind it.
+// The next word from index `start` on whose number is marked, and the index after it.
 fn next_word<V: View>(view: &V, marks: &Rows, start: u32, props: u32) -> Option<(Word, u32)>
     requires kept { IsView (V.seen view.now) }
     requires marks { HasShape marks.now 1 (V.seen view.now).limits.props }
@@ -70,7 +70,7 @@ fn next_word<V: View>(view: &V, marks: &Rows, start: u32, props: u32) -> Option<
     None
 }
 
-// The next file from a place on whose slot is marked, and the place behind it.
+// The next file from index `start` on whose slot is marked, and the index after it.
 fn next_file<V: View>(view: &V, marks: &Rows, start: u32, files: u32) -> Option<(Name, u32)>
     requires kept { IsView (V.seen view.now) }
     requires marks { HasShape marks.now 1 (V.seen view.now).limits.files }
@@ -107,7 +107,7 @@ impl<'a, V: View> Listing<'a, V> {
             self.word = next;
             return Some(Line::Prop(word));
         }
-        // No word is sought again.
+        // No word is searched again.
         self.word = limits.props;
         let (name, next) = next_file(self.view, &self.scratch.locals, self.file, limits.files)?;
         self.file = next;
@@ -115,7 +115,7 @@ impl<'a, V: View> Listing<'a, V> {
     }
 }
 
-/// Makes the listing of a place in the scratch. `lines` gives it.
+/// Makes the listing of a place in the scratch. `lines` returns it.
 pub fn make_listing<V: View>(view: &V, scratch: &mut Scratch, place: &Place)
     requires { HasRoom scratch.old (V.seen view.now).limits }
     ensures room { HasRoom scratch.new (V.seen view.now).limits }

@@ -12,7 +12,7 @@ ghost use Rattle.lis_incr.specs.Marked.{found_files, Finds, AreMarked, SplitBy, 
 use lis_bits::{Rows, copy_row};
 use lis_eval::View;
 
-// Counts for each number how many of the files found have it, and answers how many are found.
+// Counts for each number how many of the files found have it, and returns how many are found.
 pub(crate) fn count_words<V: View>(view: &V, found: &Rows, counts: &mut [u32]) -> u32
     requires found { Finds (V.seen view.now) found.now }
     requires room { length counts.old ≡ (V.seen view.now).limits.props }
@@ -81,7 +81,7 @@ fn has_marked(numbers: &[u16], marks: &Rows) -> bool
     false
 }
 
-// Takes the file in a slot from the locals where one of its words is marked.
+// Removes the file in a slot from the locals if one of its words is marked.
 fn take_covered<V: View>(view: &V, candidates: &Rows, locals: &mut Rows, slot: u32)
     requires kept { IsView (V.seen view.now) }
     requires candidates { HasShape candidates.now 1 (V.seen view.now).limits.props }
@@ -100,7 +100,7 @@ fn take_covered<V: View>(view: &V, candidates: &Rows, locals: &mut Rows, slot: u
     }
 }
 
-// Leaves as locals the files found that have none of the words that are marked.
+// Keeps as locals the files found that have none of the words that are marked.
 pub(crate) fn leave_locals<V: View>(
     view: &V,
     found: &Rows,

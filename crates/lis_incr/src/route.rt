@@ -48,8 +48,8 @@ impl<'a, V: View> Steps<'a, V> {
     }
 }
 
-/// Makes the route to a file of a place in the scratch, and answers whether the place has a file of that name.
-/// `left_steps` gives the route.
+/// Makes the route to a file of a place in the scratch, and returns whether the place has a file of that name. `left_steps` returns the
+/// route.
 pub fn make_route<V: View>(view: &V, scratch: &mut Scratch, place: &Place, name: &Name) -> bool
     requires { HasRoom scratch.old (V.seen view.now).limits }
     ensures room { HasRoom scratch.new (V.seen view.now).limits }
@@ -82,7 +82,7 @@ pub fn left_steps<'a, V: View>(view: &'a V, scratch: &'a Scratch) -> Steps<'a, V
     }
 }
 
-/// The increments that lead from a place to its file of a name, fewer than it has files.
+/// The increments that lead from a place to its file of that name. They are fewer than the files of the place.
 pub fn way<'a, V: View>(
     view: &'a V,
     scratch: &'a mut Scratch,

@@ -39,7 +39,7 @@ pub(crate) fn count_found<V: View>(view: &V, found: &Rows, files: u32) -> u32
     count
 }
 
-// The first increment that the file in the slot has: its place in the order of words, and its number.
+// The first increment that the file in the slot has: its index in the order of words, and its number.
 fn first_step<V: View>(view: &V, scratch: &mut Scratch, slot: u32) -> Option<(u32, u32)>
     requires found { Finds (V.seen view.now) scratch.old.files }
     requires kept { IsView (V.seen view.now) }
@@ -76,8 +76,8 @@ fn first_step<V: View>(view: &V, scratch: &mut Scratch, slot: u32) -> Option<(u3
     None
 }
 
-// Writes the route to the file in a slot, at most so many words, and answers how many they are. Found are the files of
-// each place on it in turn.
+// Writes the route to the file in a slot, at most `most` words, and returns how many they are. The files found are those of each place on
+// the route in turn.
 pub(crate) fn walk<V: View>(view: &V, scratch: &mut Scratch, slot: u32, most: u32) -> u32
     requires found { Finds (V.seen view.now) scratch.old.files }
     requires kept { IsView (V.seen view.now) }

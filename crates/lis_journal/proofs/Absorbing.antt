@@ -1,4 +1,4 @@
--- Contents that come over earlier ones.
+-- Contents that are put over earlier ones.
 use Rattle.std.proofs.Common.{◌≡◌, ℕ, ◌+◌, ◌<◌, ◌≤◌, ◌==◌, cond, List, [], ◌∷◌, ◌++◌, length, get_or, take, sym, ◌∙◌, ap, arith}
 use Rattle.std.proofs.lemmas.List.{take_more, take_all}
 use Rattle.lis_journal.specs.Record.{HomeBlock}
@@ -17,7 +17,7 @@ pub absorbs_then : (first es middle fs last : List HomeBlock) → Absorbs first 
 absorbs_then first es middle fs last one two = λ m old.
     two m old ∙ (ap (look fs m) (one m old) ∙ sym (look-append es fs m (look first m old)))
 
--- the contents that were absorbed by the k-th turn
+-- the contents that were absorbed by the k-th turn of the loop
 pub record SoAbsorbed (before : Staging) (es : List HomeBlock) (now : Staging) (k : ℕ) : Type 0 where
   pub layout : now.layout ≡ before.layout
   pub capacity : now.capacity ≡ before.capacity

@@ -1,4 +1,4 @@
--- A record's blocks, as they are written and read.
+-- The blocks of a record, as they are written and read.
 use Rattle.std.proofs.Common.{◌≡◌, inl, inr, ℕ, ◌+◌, ◌-◌, ◌*◌, ◌<◌, ◌≤◌, ◌==◌, nat_le, List, [], ◌∷◌, length, take, drop, IsTrue, refl, sym, ◌∙◌, ap, subst, arith, length-drop}
 use Rattle.std.proofs.lemmas.Bool.{cond-false, ne_eqb, and_from, le-leb}
 use Rattle.std.proofs.lemmas.List.{take-take, drop-drop, take_all, length-map}
@@ -57,7 +57,7 @@ pub header_torn : (b : ℕ) (es : List HomeBlock) (n : ℕ) → n ≡ 4096 * hea
 header_torn b es n is from image torn =
     torn_within (4096 * b) n (4096 * b) (4096 * record_len (length es)) (omega arith) (omega (arith, is)) from image torn
 
--- a record that is written is torn, and no more
+-- a record that is written is torn, and nothing else is
 pub torn_record : (top b : ℕ) (es : List HomeBlock) (old head : List ℕ) → b + record_len (length es) ≤ top → Within top (renumbered (b + header_blocks (length es)) es) → length head ≡ 4096 * header_blocks (length es) → 4096 * top ≤ length old → Torn (4096 * b) (4096 * record_len (length es)) old (apply (renumbered (b + header_blocks (length es)) es) (put old (4096 * b) head))
 torn_record top b es old head room within len long =
     let fits : 4096 * b + length head ≤ length old = omega (arith, room, len, long) in
@@ -79,7 +79,7 @@ look-below m n (e ∷ es) old lt =
     let ne : n ≡ m → ⊥ = λ same. absurd (omega (arith, same, lt)) in
     ap (look (renumbered (m + 1) es) n) (cond-false (n == m) e.bytes old (ne_eqb n m ne)) ∙ look-below (m + 1) n es old (omega (arith, lt))
 
--- the contents that were written behind the header are those of the entries
+-- the contents that were written after the header are those of the entries
 entries-written : (top k : ℕ) (es : List HomeBlock) (x : List ℕ) → k + length es ≤ top → Within top (renumbered k es) → 4096 * top ≤ length x → entries_from k (homes es) (apply (renumbered k es) x) ≡ es
 entries-written top k [] x le within long = refl
 entries-written top k (e ∷ es) x le within long =
@@ -96,7 +96,7 @@ entries-written top k (e ∷ es) x le within long =
     ap (λ bytes. record { home = e.home; bytes = bytes } ∷ entries_from (k + 1) (homes es) all) first
     ∙ ap (λ es. e ∷ es) (entries-written top (k + 1) es y more within.2 longer)
 
--- What was written is a record in form, of these entries.
+-- What was written is a well-formed record, of these entries.
 pub spelled_written : (layout : Layout) (b : ℕ) (es : List HomeBlock) (old head : List ℕ) → b + record_len (length es) ≤ homes_start layout → Within (homes_start layout) (renumbered (b + header_blocks (length es)) es) → length head ≡ 4096 * header_blocks (length es) → 4096 * homes_start layout ≤ length old → IsTrue (is_header layout head) → homes_of head ≡ homes es → Spelled layout b es (apply (renumbered (b + header_blocks (length es)) es) (put old (4096 * b) head))
 unfolding record_end is_record recorded
 spelled_written layout b es old head room within len long form homes_are =

@@ -96,7 +96,7 @@ record-was blocks b image low = by (cases_lt 575 (count_at b image))
         ∙ (and_false (is_header (of_576 blocks) (header_at b image))
         ∙ ap (λ f. f && rest && zeros && nat_le (was_end b image) 578) (sym (and_false (nat_lt 0 (count_of h))) ∙ ap (λ few. nat_lt 0 (count_of h) && few) (sym many)))
 
--- a record in form has at most 575 homes
+-- a well-formed record has at most 575 homes
 few_homes : (blocks b : ℕ) (image : List ℕ) → 2 ≤ b → is_record (of_576 blocks) b image ≡ true → count_at b image ≤ 575
 unfolding is_record record_end
 few_homes blocks b image low form = elim (cases_lt 575 (count_at b image)) as (λ _. count_at b image ≤ 575) [

@@ -10,12 +10,12 @@ use Rattle.lis_journal.specs.Images.{look}
 use Rattle.lis_journal.specs.Spreads.{IsClear, Touched}
 use Rattle.lis_journal.specs.Staging.{with_entry, has_entry}
 
--- each entry is a block within so many blocks
+-- each entry is a block below this number
 abbrev pub Within : ℕ → List HomeBlock → Type 0
 Within blocks [] = Unit {0}
 Within blocks (e ∷ es) = (e.home < blocks) × (length e.bytes ≡ 4096) × Within blocks es
 
--- places of different blocks have nothing in common
+-- different blocks have no byte in common
 pub blocks-apart : (n h : ℕ) → eqb n h ≡ false → Apart (4096 * h) 4096 (4096 * n) 4096
 blocks-apart n h differ = cases (cases_lt n h)
   where
@@ -56,7 +56,7 @@ block-apply blocks (e ∷ es) image n within long =
     block-apply blocks es (put image (4096 * e.home) e.bytes) n within.2 (omega (arith, long, same))
     ∙ ap (look es n) (block-put n e.home e.bytes image within.1 fits)
 
--- Either an entry says what a block holds, or the block is clear of all.
+-- Either an entry says what a block has, or the block is clear of all.
 pub home_or_clear : (es : List HomeBlock) (n : ℕ) → ((old other : List ℕ) → look es n old ≡ look es n other) ⊎ (((old : List ℕ) → look es n old ≡ old) × IsClear es (4096 * n) 4096)
 home_or_clear [] n = inr (λ old. refl, tt)
 home_or_clear (e ∷ es) n = by (eqb n e.home) refl (home_or_clear es n)
@@ -91,7 +91,7 @@ touched_trans es x y z xy yz = record {
   clear = λ at n clear. yz.clear at n clear ∙ xy.clear at n clear;
 }
 
--- a torn block of an entry touches the entries' blocks alone
+-- a torn block of an entry touches only the entries' blocks
 pub touched_torn : (es : List HomeBlock) (k : ℕ) (d : HomeBlock) → k < length es → (from image : List ℕ) → Torn (4096 * (get_or es k d).home) 4096 from image → Touched es from image
 touched_torn es k d lt from image torn = record {
   len = torn.len;
@@ -123,7 +123,7 @@ apply_alike blocks es fs image within_es within_fs long alike =
 clear_rest : (e : HomeBlock) (es : List HomeBlock) (x y : List ℕ) → Touched es x y → Touched (e ∷ es) x y
 clear_rest e es x y touched = record { len = touched.len; clear = λ at n clear. touched.clear at n clear.1 }
 
--- the entries in their homes touch the entries' blocks alone
+-- the entries in their homes touch only the entries' blocks
 pub touched_apply : (blocks : ℕ) (es : List HomeBlock) (image : List ℕ) → Within blocks es → 4096 * blocks ≤ length image → Touched es image (apply es image)
 touched_apply blocks [] image within long = touched_refl [] image
 touched_apply blocks (e ∷ es) image within long =
@@ -153,7 +153,7 @@ pub neither : (a b : Bool) → (a || b) ≡ false → (a ≡ false) × (b ≡ fa
 neither true b e = absurd (false≢true (sym e))
 neither false b e = (refl, e)
 
--- a block that is not staged is what was there
+-- a block that is not staged has what was there
 pub look-absent : (es : List HomeBlock) (n : ℕ) (old : List ℕ) → has_entry es n ≡ false → look es n old ≡ old
 look-absent [] n old absent = refl
 look-absent (e ∷ es) n old absent =

@@ -1,4 +1,4 @@
--- What a journal that fits a disk says, for what stands on it.
+-- What a journal that fits a disk says of the images that the disk may leave.
 use Rattle.std.proofs.Common.{◌≡◌, inl, inr, ℕ, ◌*◌, ◌<◌, ◌≤◌, ◌==◌, nat_lt, ◌||◌, Bool, true, false, cond, List, [], ◌∷◌, ◌++◌, length, Option, Some, None, is_some, IfSome, IsTrue, refl, sym, ◌∙◌, ap, subst, arith}
 use Rattle.std.specs.List.{list_all}
 use Rattle.std.proofs.lemmas.Bool.{and_parts, ltb-true, eqb-true, ne_eqb, cond-false, false≢true}
@@ -29,26 +29,26 @@ kept_whole journal {m} {kept} fits n out lt =
     let len = length-part (4096 * n) 4096 m.bytes (omega (arith, lt, holds.long)) in
     ap length (sym (holds.latest n (block n m.bytes) ∙ holds.same n out refl)) ∙ length-look journal.layout.blocks es n (block n m.bytes) sound.within len
 
--- Each image, and the bytes as they read, stand for what is kept, but for the placed blocks.
+-- Each image, and the bytes as they read, represent what is kept, except for the placed blocks.
 pub fits_but : (journal : Held) {m : Meaning} {kept : ℕ → List ℕ} → Fits journal m kept → (image : List ℕ) → m.images image → StandsBut journal.layout journal.placed kept image
 fits_but journal {kept = kept} fits image is = rest_stands journal.layout journal.records journal.placed kept image (fits.leaves image is)
 
--- With nothing placed, each image, and the bytes as they read, stand for what is kept.
+-- With nothing placed, each image, and the bytes as they read, represent what is kept.
 pub fits_stand : (journal : Held) {m : Meaning} {kept : ℕ → List ℕ} → journal.placed ≡ [] → Fits journal m kept → Always m (StandsFor journal.layout kept)
 fits_stand journal {m} {kept} none fits = record {
   reads = stands_full journal.layout kept m.bytes (rest_stands journal.layout journal.records [] kept m.bytes fits.reads);
   leaves = λ image is. stands_full journal.layout kept image (subst (λ placed. StandsBut journal.layout placed kept image) none (fits_but journal fits image is));
 }
 
--- where nothing is staged and no record is open, a block that is kept is the block as it reads
+-- a block as it reads, with its latest content in the open records over it, is what is kept of it
 pub fits_reads : (journal : Held) {m : Meaning} {kept : ℕ → List ℕ} → Fits journal m kept → (n : ℕ) → IsOutside journal.layout n → look journal.records.latest n (block n m.bytes) ≡ kept n
 fits_reads journal fits n out = fits.reads.holds.same n out refl
 
--- what a block holds is what is kept of it, with what is staged over it
+-- what a block has is what is kept of it, with what is staged over it
 pub fits_held : (journal : Held) {m : Meaning} {kept : ℕ → List ℕ} → Fits journal m kept → (n : ℕ) → IsOutside journal.layout n → held_in journal m.bytes n ≡ look journal.staged n (kept n)
 fits_held journal fits n out = ap (look journal.staged n) (fits_reads journal fits n out)
 
--- over a call that changes nothing it fits as before
+-- over a call that changes nothing the journal fits as before
 pub fits_unchanged : (journal : Held) {a b : Meaning} {kept : ℕ → List ℕ} → IsDiskRun a b → IsUnchanged a b → Fits journal a kept → Fits journal b kept
 fits_unchanged journal {kept = kept} run same fits = record {
   honest = run.honest ∙ fits.honest;
@@ -93,7 +93,7 @@ replayed-front layout image replay enough long is =
     ap (block 0) (sym parts.1)
     ∙ (block-apply layout.blocks (all_recorded 2 m image) image 0 sound.within long ∙ look-front (homes_start layout) (all_recorded 2 m image) (block 0 image) (omega arith) sound.home)
 
--- ---- what lies past the image
+-- ---- what follows the image
 placed_within : (blocks n : ℕ) (placed : List ℕ) → IsTrue (list_all (λ m. nat_lt m blocks) placed) → blocks ≤ n → is_among placed n ≡ false
 placed_within blocks n [] within le = refl
 placed_within blocks n (m ∷ placed) within le =
@@ -129,7 +129,7 @@ among_more placed n m e = by (is_among placed n) (n == m) refl refl e
         let other = neither (n == m) false parts.1 in
         ap (λ b. b || is_among placed m) (sym here ∙ other.0) ∙ parts.0
 
--- told by other words for the blocks, the records and the placed blocks
+-- the same with other names for the layout, the records and the placed blocks
 pub fits_told : {layout now : Layout} {records now_records : OpenRecords} {placed now_placed : List ℕ} {m : Meaning} {kept : ℕ → List ℕ} → layout ≡ now → records ≡ now_records → placed ≡ now_placed → FitsAt layout records placed m kept → FitsAt now now_records now_placed m kept
 fits_told {now = now} {records = records} {now_records = now_records} {placed = placed} {m = m} {kept = kept} blocks_are records_are placed_are fits =
     subst (λ p. FitsAt now now_records p m kept) placed_are

@@ -1,4 +1,4 @@
--- Entries in frames, as a frame is written, taken or given back.
+-- Entries in frames, when a frame is written, taken or given back.
 use Rattle.std.proofs.Common.{◌≡◌, ◌≢◌, ◌⊎◌, inl, inr, ℕ, zero, suc, ◌+◌, ◌<◌, ◌≤◌, nat_lt, true, ◌&&◌, ◌==◌, cond, List, [], ◌∷◌, ◌++◌, length, get_or, take, drop, Option, Some, None, unwrap_or, IsTrue, IsSome, refl, sym, ◌∙◌, ap, subst, arith, ◌||◌, Bool, false}
 use Rattle.std.specs.List.{list_all}
 use Rattle.std.proofs.lemmas.Bool.{and_parts, lt-ltb, eq-eqb, false≢true, cond-true, cond-false, le-ltb, ne_eqb, ltb-false, eqb-false, eqb-true}
@@ -36,21 +36,21 @@ has_frame r (x ∷ xs) (suc k) d whole lt =
 none_short : (o : Option (List ℕ)) → o ≡ None → (length (unwrap_or o []) == 4096) ≡ true → ⊥
 none_short o none e = false≢true (sym (ap (λ o. length (unwrap_or o []) == 4096) none) ∙ e)
 
--- a free frame is none of theirs
+-- a free frame is none of those of the staged blocks
 pub fresh : (r : region.Region ℕ) (xs : List Staged) (frame : ℕ) → AllWhole (entries_of r xs) → region.get r frame ≡ None → IsFresh frame xs
 fresh r [] frame whole free = tt
 fresh r (x ∷ xs) frame whole free =
     let parts = and_parts (length (bytes_at r x.frame) == 4096) (list_all (λ e. length e.bytes == 4096) (entries_of r xs)) whole in
     (λ same. none_short (region.get r x.frame) (ap (region.get r) same ∙ free) parts.0, fresh r xs frame parts.1 free)
 
--- a frame that is none of theirs changes no entry
+-- a frame that is none of those of the staged blocks changes no entry
 pub entries-fresh : (r : region.Region ℕ) (xs : List Staged) (frame : ℕ) (items : Option (List ℕ)) → IsFresh frame xs → entries_of (region.with_frame r frame items) xs ≡ entries_of r xs
 entries-fresh r [] frame items fresh_ = refl
 entries-fresh r (x ∷ xs) frame items fresh_ =
     ap (λ o. record { home = x.home; bytes = unwrap_or o [] } ∷ entries_of (region.with_frame r frame items) xs) (get-with_frame_other r frame x.frame items fresh_.0)
     ∙ ap (λ es. entry_of r x ∷ es) (entries-fresh r xs frame items fresh_.1)
 
--- the frame of the block at a place
+-- the frame of the block at an index
 pub frame_fresh : (x : Staged) (xs : List Staged) (k : ℕ) (d : Staged) → IsFresh x.frame xs → k < length xs → x.frame ≢ (get_or xs k d).frame
 frame_fresh x [] k d fresh_ lt = absurd (omega arith)
 frame_fresh x (y ∷ ys) zero d fresh_ lt = λ same. fresh_.0 (sym same)
@@ -85,7 +85,7 @@ entries-found r (x ∷ xs) n (suc k) d bytes apart found lt in_range =
     ∙ (ap (λ es. entry_of r x ∷ es) (entries-found r xs n k d bytes apart.1 found.1 less in_range)
     ∙ sym (head-with (entry_of r x) (entries_of r xs) n bytes found.0))
 
--- a block in a new frame comes in at its place
+-- a block in a new frame is inserted at its index
 pub entries-insert : (r : region.Region ℕ) (xs : List Staged) (n k : ℕ) (s : Staged) (bytes : List ℕ) → PlaceFor n k xs → s.home ≡ n → region.get r s.frame ≡ Some bytes → entries_of r (take k xs ++ s ∷ drop k xs) ≡ with_entry (entries_of r xs) n bytes
 entries-insert r [] n zero s bytes place home is =
     ap (λ o. record { home = s.home; bytes = unwrap_or o [] } ∷ []) is ∙ ap (λ h. record { home = h; bytes = bytes } ∷ []) home
@@ -109,7 +109,7 @@ apart-insert [] (suc k) s apart fresh_ = (tt, tt)
 apart-insert (x ∷ xs) (suc k) s apart fresh_ =
     (fresh-insert x.frame xs k s apart.0 (λ same. fresh_.0 (sym same)), apart-insert xs k s apart.1 fresh_.1)
 
--- without the last one
+-- without the last staged block
 pub apart-front : (xs : List Staged) (s : Staged) → AreApart (xs ++ s ∷ []) → AreApart xs × IsFresh s.frame xs
 apart-front [] s apart = (tt, tt)
 apart-front (x ∷ xs) s apart =
@@ -145,7 +145,7 @@ pub free-refilled : (r : region.Region ℕ) (frame : ℕ) (a b : List ℕ) → r
 free-refilled r frame a b is =
     omega (arith, length-set r.frames frame (Some b), count-refilled r.frames frame a b (frame_in_range r frame a is) is)
 
--- the last block goes, and its frame is given back
+-- the last block is removed, and its frame is given back
 pub cleared : (r r' : region.Region ℕ) (xs ys : List Staged) (s : Staged) → xs ≡ ys ++ s ∷ [] → r' ≡ region.with_frame r s.frame None → AllWhole (entries_of r xs) → AreApart xs → AllWhole (entries_of r' ys) × AreApart ys
 cleared r r' xs ys s is given whole apart =
     let parts = apart-front ys s (subst AreApart is apart) in
@@ -188,7 +188,7 @@ put_found r r' xs n k room layout capacity s bytes stage found lt is filled home
       same,
     )
 
--- a block that is not staged finds a free frame
+-- for a block that is not staged there is a free frame
 pub not_full : (r : region.Region ℕ) (xs : List Staged) (n k room : ℕ) (layout : Layout) (capacity : ℕ) → IsStage r xs room layout capacity → PlaceFor n k xs → IsTrue (has_entry (entries_of r xs) n) ⊎ (length (entries_of r xs) < capacity) → length xs < capacity
 not_full r xs n k room layout capacity stage place may = elim may as (λ _. length xs < capacity) [
   | inl has ↦ absurd (false≢true (sym (has-homes r xs n ∙ absent layout.blocks (layout.records + 1) n k xs (list_rises r xs layout.blocks (layout.records + 1) stage.staging.rise) place) ∙ has))
@@ -222,7 +222,7 @@ put_new r r1 r2 xs xs' n k room room' layout capacity frame fill bytes stage pla
       same,
     )
 
--- What a block that is staged is to hold.
+-- The content of a block that is staged.
 
 look-above : (es : List HomeBlock) (blocks last n : ℕ) (old : List ℕ) → IsTrue (rises blocks last (homes es)) → n ≤ last → look es n old ≡ old
 look-above [] blocks last n old rise le = refl
@@ -247,7 +247,7 @@ has_frame_at_place r xs k s whole lt is = subst (λ (s : Staged). region.HasFram
 pub may_stage : {s t : Staging} (n : ℕ) → s ≡ t → IsTrue (has_entry t.entries n) ⊎ (length t.entries < t.capacity) → IsTrue (has_entry s.entries n) ⊎ (length s.entries < s.capacity)
 may_stage n same may = subst (λ (s : Staging). IsTrue (has_entry s.entries n) ⊎ (length s.entries < s.capacity)) (sym same) may
 
--- What a block is to hold after one is staged.
+-- The content of a block after one is staged.
 pub look-with_entry : (blocks last n : ℕ) (bytes : List ℕ) (es : List HomeBlock) (m : ℕ) (old : List ℕ) → IsTrue (rises blocks last (homes es)) → look (with_entry es n bytes) m old ≡ cond (m == n) bytes (look es m old)
 look-with_entry blocks last n bytes [] m old rise = refl
 look-with_entry blocks last n bytes (e ∷ es) m old rise =

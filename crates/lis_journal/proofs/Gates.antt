@@ -25,7 +25,7 @@ gate-same k from image lt same =
 pub gate-torn : (at n : ℕ) (from image : List ℕ) → Torn at n from image → (k : ℕ) → k < 64 → Apart at n (4096 + k) 1 → is_open k image ≡ is_open k from
 gate-torn at n from image torn k lt apart = gate-same k from image lt (part-torn at n from image torn (4096 + k) 1 apart)
 
--- the other gates stay where one is torn
+-- the other gates stay if one is torn
 pub other_gate-torn : (j : ℕ) (from image : List ℕ) → Torn (4096 + j) 1 from image → (k : ℕ) → k < 64 → k ≢ j → is_open k image ≡ is_open k from
 other_gate-torn j from image torn k lt ne = gate-torn (4096 + j) 1 from image torn k lt (sides (split k j ne))
   where
@@ -97,7 +97,7 @@ pub open_count-shut : (image : List ℕ) → 4160 ≤ length image → is_open 0
 open_count-shut image long closed =
     open_count-is image 0 long (omega arith) (λ k lt. absurd (omega arith)) (λ lt. closed)
 
--- where no record is open, gate 0 is closed
+-- if no record is open, gate 0 is closed
 pub shut_first : (image : List ℕ) → 4160 ≤ length image → open_count image ≡ 0 → is_open 0 image ≡ false
 shut_first image long none = subst (λ k. is_open k image ≡ false) none (closed_at image long (omega (arith, none)))
 
@@ -106,6 +106,6 @@ none_open [] k none = refl
 none_open (gate ∷ rest) zero none = (neither (gate == 1) (list_any (λ gate. gate == 1) rest) none).0
 none_open (gate ∷ rest) (suc k) none = none_open rest k (neither (gate == 1) (list_any (λ gate. gate == 1) rest) none).1
 
--- with no gate open, each is closed
+-- if no gate is open, each is closed
 pub all_closed : (image : List ℕ) → has_open image ≡ false → (k : ℕ) → is_open k image ≡ false
 all_closed image none k = none_open (gates image) k none

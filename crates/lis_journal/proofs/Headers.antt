@@ -37,7 +37,7 @@ zeros-drop zero xs zeros = zeros
 zeros-drop (suc n) [] zeros = zeros
 zeros-drop (suc n) (x ∷ xs) zeros = zeros-drop n xs (and_parts (x == 0) (list_all (λ b. b == 0) xs) zeros).1
 
--- the zeros behind a number that is written
+-- the zeros after a number that is written
 pub zeros_behind : (h bytes : List ℕ) (m : ℕ) → length bytes ≡ 4 → 4 * m + 4 ≤ length h → IsTrue (list_all (λ b. b == 0) (drop (4 * m) h)) → IsTrue (list_all (λ b. b == 0) (drop (4 * (m + 1)) (put h (4 * m) bytes)))
 zeros_behind h bytes m len le zeros =
     let end : 4 * m + length bytes ≡ 4 * (m + 1) = omega (arith, len) in
@@ -54,7 +54,7 @@ words_left h k c le = let more : c + 1 - k ≡ suc (c + 1 - (k + 1)) = omega ari
 pub none_left : (h : List ℕ) (k c : ℕ) → c < k → words k (c + 1 - k) h ≡ []
 none_left h k c lt = let none : c + 1 - k ≡ 0 = omega arith in ap (λ n. words k n h) none
 
--- one home more
+-- one more home
 pub rises_on : (blocks last home : ℕ) (hs : List ℕ) → last < home → home < blocks → rises blocks last (home ∷ hs) ≡ rises blocks home hs
 rises_on blocks last home hs above within =
     ap (λ b. b && nat_lt home blocks && rises blocks home hs) (lt-ltb last home above)
@@ -127,7 +127,7 @@ rises_step blocks last home k c h le is above within =
     ∙ rises_on blocks last home (words (k + 1) (c + 1 - (k + 1)) h) above within
 
 -- ---- a header in an image
--- the count by the front of the image from its block on
+-- the count, by the first bytes of the image from its block on
 pub count-part : (b n : ℕ) (image : List ℕ) → 4 ≤ n → count_of (part (4096 * b) n image) ≡ count_at b image
 count-part b n image le = ap (from_le_bytes w32) (take-take 4 n (drop (4096 * b) image) le)
 

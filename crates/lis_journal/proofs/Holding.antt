@@ -1,4 +1,4 @@
--- A journal's open records over a disk, by the log that is seen of them.
+-- A journal's open records over a disk, by the log of them that a contract sees.
 use Rattle.std.proofs.Common.{◌≡◌, ◌⊎◌, inl, inr, ℕ, zero, suc, ◌+◌, ◌*◌, ◌<◌, ◌≤◌, ◌==◌, Bool, true, false, cond, List, [], ◌∷◌, ◌++◌, length, take, drop, length-append, length-drop, append_assoc, refl, sym, ◌∙◌, ap, subst, arith}
 use Rattle.std.specs.List.{range_with_len}
 use Rattle.std.proofs.lemmas.Bool.{eqb-true, cases_lt}
@@ -29,7 +29,7 @@ fits_opened some fits = record {
   leaves = λ image is. rest_opened (fits.leaves image is);
 }
 
--- where all blocks are settled, any may be placed
+-- what fits with no block placed fits with any blocks placed
 pub fits_placed : {layout : Layout} {records : OpenRecords} {m : Meaning} {kept : ℕ → List ℕ} (placed : List ℕ) → FitsAt layout records [] m kept → FitsAt layout records placed m kept
 fits_placed placed fits = record {
   honest = fits.honest;
@@ -37,7 +37,7 @@ fits_placed placed fits = record {
   leaves = λ image is. rest_placed placed (fits.leaves image is);
 }
 
--- ---- two calls in a row
+-- ---- two calls in sequence
 pub save_moments : {a b c : Meaning} (layout : Layout) (placed : List ℕ) (kept : ℕ → List ℕ) (es : List HomeBlock) → Leaves a b (StandsBut layout placed kept) → Leaves b c (StandsForAllOrNone layout placed kept es) → Leaves a c (StandsForAllOrNone layout placed kept es)
 save_moments layout placed kept es one two = leaves_then (leaves_weaken _ one (λ image stands. inl stands)) two
 
@@ -60,7 +60,7 @@ placed_torn {records = records} {from = from} n len others now image home rest t
       gates = λ k lt. gate-torn (4096 * n) len from image torn k lt (inl (omega (arith, home, lt))) ∙ rest.gates k lt;
     }
 
--- a block that is none of a run lies before or behind it
+-- a block that is none of a run is before it or after it
 outside_run : (n count m : ℕ) → is_among (range_with_len n count) m ≡ false → (m < n) ⊎ (n + count ≤ m)
 outside_run n zero m out = elim (cases_lt m n) as (λ _. (m < n) ⊎ (n + 0 ≤ m)) [ inl lt ↦ inl lt | inr le ↦ inr (omega (arith, le)) ]
 outside_run n (suc count) m out =
@@ -83,7 +83,7 @@ torn_rest {records = records} {placed = placed} {kept = kept} {from = from} n co
     let parts = among_parts (range_with_len n count) placed m not_in in
     ap (look records.latest m) (other_block n count m from image parts.0 torn) ∙ rest.holds.same m out parts.1)
 
--- the blocks that are kept where they are placed
+-- the blocks that are kept, if they are placed
 torn_kept : {layout : Layout} {records : OpenRecords} {kept : ℕ → List ℕ} {image : List ℕ} (placed : List ℕ) (n count : ℕ) (bytes : List ℕ) → IsAtRest layout records (range_with_len n count ++ placed) kept image → IsAtRest layout records (range_with_len n count ++ placed) (with_run n count bytes kept) image
 torn_kept {kept = kept} placed n count bytes rest = record {
   few = rest.few;
@@ -119,7 +119,7 @@ put_none from at [] none =
     sym (ap (λ xs. xs ++ drop (at + 0) from) (append-nil (take at from)) ∙ ap (λ k. take at from ++ drop k from) same ∙ take-append-drop at from)
 put_none from at (b ∷ bytes) none = absurd (omega (arith, none))
 
--- a write of the front, and then of what stands behind it, is a write of both
+-- a write of the first bytes, and then of those after them, is a write of both
 put_two : (at : ℕ) (front behind from : List ℕ) → at ≤ length from → put (put from at front) (at + length front) behind ≡ put from at (front ++ behind)
 unfolding put
 put_two at front behind from within =
@@ -165,7 +165,7 @@ written_run {layout} {records} n (suc count) bytes kept from home within whole f
 place_torn : (n count at len : ℕ) → at ≡ 4096 * n → len ≡ 4096 * count → (from image : List ℕ) → Torn at len from image → Torn (4096 * n) (4096 * count) from image
 place_torn n count at len at_is len_is from image torn = subst (λ p. Torn p (4096 * count) from image) at_is (subst (λ l. Torn at l from image) len_is torn)
 
--- a write of home blocks leaves what lies past the image
+-- a write of home blocks leaves what follows the image
 pub home_past : (layout : Layout) (n count at len : ℕ) → n + count ≤ layout.blocks → at ≡ 4096 * n → len ≡ 4096 * count → (from image : List ℕ) → Torn at len from image → SamePast layout.blocks from image
 home_past layout n count at len within at_is len_is from image torn = λ k le.
     part-torn at len from image torn (4096 * k) 4096 (inr (omega (arith, at_is, len_is, within, le)))
@@ -185,7 +185,7 @@ module _ {layout : Layout} {records : OpenRecords} {placed : List ℕ} {kept : �
         torn_kept placed n count bytes (torn_rest n count image home (fits.leaves was.0 was.1) (place_torn n count at len at_is len_is was.0 image was.2));
   }
 
--- the order in which blocks were placed, and how often, is nothing to the images
+-- the order in which blocks were placed, and how often, makes no difference to the images
 pub fits_among : {layout : Layout} {records : OpenRecords} {m : Meaning} {kept : ℕ → List ℕ} (placed others : List ℕ) → ((n : ℕ) → is_among others n ≡ false → is_among placed n ≡ false) → FitsAt layout records placed m kept → FitsAt layout records others m kept
 fits_among {layout} {records} {m} {kept} placed others less fits = record {
   honest = fits.honest;
@@ -204,7 +204,7 @@ fits_among {layout} {records} {m} {kept} placed others less fits = record {
   };
 }
 
--- ---- a record more, told by the log
+-- ---- one more record, by the log
 pub append_moments : {a b : Meaning} {layout now : Layout} {records now_records : OpenRecords} (es : List HomeBlock) → layout ≡ now → records ≡ now_records → ((placed : List ℕ) (kept : ℕ → List ℕ) → FitsAt layout records placed a kept → Leaves a b (StandsForAllOrNone layout placed kept es)) → (placed : List ℕ) (kept : ℕ → List ℕ) → FitsAt now now_records placed a kept → Leaves a b (StandsForAllOrNone now placed kept es)
 append_moments {a} {b} {now = now} {records = records} es blocks_are records_are moments =
     subst (λ (r : OpenRecords). (placed : List ℕ) (kept : ℕ → List ℕ) → FitsAt now r placed a kept → Leaves a b (StandsForAllOrNone now placed kept es)) records_are

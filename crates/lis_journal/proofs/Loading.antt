@@ -17,7 +17,7 @@ use Rattle.lis_journal.proofs.Places.{rise_parts}
 use Rattle.lis_journal.proofs.Series.{behind-more, entries-more, form-more, form-bad}
 use Rattle.lis_journal.proofs.Absorbing.{absorbs_put, absorbs_then}
 
--- ---- reads in a row
+-- ---- reads in sequence
 pub quiet_call : {a b : Meaning} → IsDiskRun a b → Elapses a b → IsUnchanged a b → IsQuiet a b
 quiet_call {a} run time same = record {
   bytes = same.bytes;
@@ -51,7 +51,7 @@ last_rises blocks last home (h ∷ hs) rest rise =
     let more = last_rises blocks h home hs rest parts.2 in
     (omega (arith, parts.0, more.0), more.1)
 
--- each home of a header in form is a home block within the image
+-- each home of a well-formed header is a home block within the image
 pub home_at : (layout : Layout) (k : ℕ) (h : List ℕ) → IsForm layout h → k < count_of h → (layout.records + 1 < word (k + 1) h) × (word (k + 1) h < layout.blocks)
 home_at layout k h form lt =
     let split : count_of h ≡ k + suc (count_of h - k - 1) = omega arith in
@@ -68,7 +68,7 @@ entries-snoc m (h ∷ hs) home a =
     ap (λ es. record { home = h; bytes = block m a } ∷ es)
     (entries-snoc (m + 1) hs home a ∙ ap (λ j. entries_from (m + 1) hs a ++ record { home = home; bytes = block j a } ∷ []) same)
 
--- What was loaded of a record, whose contents begin at block m, by the k-th turn.
+-- What was loaded of a record, whose contents begin at block m, by the k-th turn of the loop.
 pub record Loaded (old now : Meaning) (before after : Staging) (h : List ℕ) (m k : ℕ) : Type 0 where
   pub run : IsDiskRun old now
   pub faults : now.disk_faults ≡ old.disk_faults
@@ -142,8 +142,8 @@ unfolding recorded
 recorded_read b count bytes head count_is is =
     ap (λ c. entries_from (b + header_blocks c) (homes_of head) bytes) count_is ∙ ap (λ header. entries_from (b + header_blocks (count_at b bytes)) (homes_of header) bytes) is
 
--- ---- records in a row
--- The first k records are in form, and their latest contents are in memory.
+-- ---- records in sequence
+-- The first k records are well formed, and their latest contents are in memory.
 pub record Through (old now : Meaning) (before after : Staging) (first k : ℕ) : Type 0 where
   pub run : IsDiskRun old now
   pub faults : now.disk_faults ≡ old.disk_faults

@@ -1,4 +1,4 @@
--- The phases, each as a fact about one image: what keeps it, what stands in it, and where it leads.
+-- The phases, each as a fact about one image: what keeps it, what the image represents, and where it leads.
 use Rattle.std.proofs.Common.{◌≡◌, ◌≢◌, ◌⊎◌, inl, inr, ℕ, zero, suc, ◌+◌, ◌*◌, ◌<◌, ◌≤◌, ◌==◌, nat_lt, Bool, true, false, cond, List, [], ◌∷◌, ◌++◌, length, replicate, Option, Some, None, is_some, IsSomeAnd, slice_index, refl, sym, ◌∙◌, ap, subst, arith}
 use Rattle.std.proofs.lemmas.Bool.{lt-ltb, le-ltb, cases_eq, cases_order}
 use Rattle.lis_ports.specs.Bytes.{put, Torn}
@@ -13,7 +13,7 @@ use Rattle.lis_journal.proofs.Entries.{Within, AtHome, block-apply, length-apply
 use Rattle.lis_journal.proofs.Gates.{gate-torn, other_gate-torn, gate-put, others-put, open_count-same, open_count-gates, open_count-shut, open_before}
 use Rattle.lis_journal.proofs.Series.{behind_from, behind_within, records_same, behind-more, entries-more, form-more, look-append, all_sound, spelled_same}
 
--- ---- what stands
+-- ---- what an image represents
 pub replayed-good : (layout : Layout) (m : ℕ) (image : List ℕ) → open_count image ≡ m → first_bad layout 2 m image ≡ None → replayed layout image ≡ Some (apply (all_recorded 2 m image) image)
 unfolding replayed bad_record
 replayed-good layout m image counted form =
@@ -40,7 +40,7 @@ pub stands_but : (layout : Layout) (placed : List ℕ) (kept : ℕ → List ℕ)
 unfolding StandsBut
 stands_but layout placed kept image r long is keeps = (long, some_and (KeepsBut layout placed kept) (replayed layout image) is keeps)
 
--- with nothing placed it stands for all of them
+-- with nothing placed the image represents all of them
 pub stands_full : (layout : Layout) (kept : ℕ → List ℕ) (image : List ℕ) → StandsBut layout [] kept image → StandsFor layout kept image
 unfolding StandsFor StandsBut
 stands_full layout kept image all = (all.0, by (replayed layout image) all.1)
@@ -49,7 +49,7 @@ stands_full layout kept image all = (all.0, by (replayed layout image) all.1)
     by None h = h
     by (Some r) h = record { long = h.long; same = λ n out. h.same n out refl }
 
--- fewer blocks have to be right
+-- fewer blocks must be right
 pub stands_less : (layout : Layout) (placed more : List ℕ) (kept : ℕ → List ℕ) (image : List ℕ) → ((n : ℕ) → is_among more n ≡ false → is_among placed n ≡ false) → StandsBut layout placed kept image → StandsBut layout more kept image
 unfolding StandsBut
 stands_less layout placed more kept image less all = (all.0, by (replayed layout image) all.1)
@@ -225,7 +225,7 @@ torn_others layout kept from image shut torn = record {
   keeps = keeps_torn layout kept 4097 63 from image (omega arith) (omega arith) shut.keeps.long shut.keeps.same torn;
 }
 
--- with all gates closed, it is at rest with no record
+-- with all gates closed, the image is at rest with no record
 pub shut_rest : (layout : Layout) (kept : ℕ → List ℕ) (image : List ℕ) → homes_start layout < layout.blocks → Keeps layout kept image → ((k : ℕ) → k < 64 → is_open k image ≡ false) → IsAtRest layout no_records [] kept image
 shut_rest layout kept image enough keeps closed = record {
   few = omega arith;
@@ -250,8 +250,8 @@ others_shut layout kept bytes shut =
     by zero lt first long = first
     by (suc k) lt first long = others-put bytes long (suc k) (omega arith) lt
 
--- ---- a record more
--- the gate of a whole record may be torn
+-- ---- one more record
+-- the gate of a complete record may be torn
 pub torn_gate : (layout : Layout) (records : OpenRecords) (kept : ℕ → List ℕ) (es : List HomeBlock) (from image : List ℕ) → Unsure layout records kept es from → Torn (4096 + records.count) 1 from image → Unsure layout records kept es image
 torn_gate layout records kept es from image unsure torn =
     let apart : (j : ℕ) → 2 ≤ j → Apart (4096 + records.count) 1 (4096 * j) 4096 = λ j le. inr (omega (arith, le, unsure.few)) in

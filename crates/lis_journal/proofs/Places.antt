@@ -1,4 +1,4 @@
--- The place of a block among the staged ones, which are in the order of their homes.
+-- The index of a block among the staged ones, which are in the order of their homes.
 use Rattle.std.proofs.Common.{◌≡◌, ℕ, zero, suc, ◌+◌, ◌<◌, ◌≤◌, nat_lt, Bool, true, false, ◌&&◌, ◌||◌, ◌==◌, cond, List, [], ◌∷◌, length, get_or, IsTrue, refl, sym, ◌∙◌, ap, subst, arith}
 use Rattle.std.specs.List.{list_all, list_any}
 use Rattle.std.proofs.lemmas.List.{get_or_default}
@@ -98,7 +98,7 @@ whole-with_entry n bytes (e ∷ es) len whole =
     by false true wide one rest more = and_from (length bytes == 4096) (list_all (λ e. length e.bytes == 4096) es) wide rest
     by false false wide one rest more = and_from (length bytes == 4096) (list_all (λ e. length e.bytes == 4096) (e ∷ es)) wide whole
 
--- where no entry has the home, none below or above it does
+-- a block that belongs at an index, and is not there, is the home of no entry
 pub absent : (blocks last n k : ℕ) (xs : List Staged) → IsTrue (rises blocks last (home_list xs)) → PlaceFor n k xs → list_any (λ h. h == n) (home_list xs) ≡ false
 absent blocks last n zero [] rise place = refl
 absent blocks last n (suc k) [] rise place = absurd place
@@ -122,7 +122,7 @@ rise_above blocks last n m xs s rise lt higher j d le in_range =
     let here : (get_or xs m d).home ≡ (get_or xs m s).home = ap (λ (x : Staged). x.home) (get_or_default xs m d s lt) in
     omega (arith, homes_rise blocks last xs m j d rise le in_range, here, higher)
 
--- what stands above a place where the home is not lower and another
+-- the home at an index is above n if it is not lower than n and differs from n
 pub place_above : (n k : ℕ) (xs : List Staged) (s : Staged) → ((get_or xs k s).home ≡ n → ⊥) → ((j : ℕ) (d : Staged) → k ≤ j → j < length xs → n ≤ (get_or xs j d).home) → (d : Staged) → k < length xs → n < (get_or xs k d).home
 place_above n k xs s other above d lt =
     let here : (get_or xs k d).home ≡ (get_or xs k s).home = ap (λ (x : Staged). x.home) (get_or_default xs k d s lt) in

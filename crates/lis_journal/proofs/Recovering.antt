@@ -67,7 +67,7 @@ unfolding recovered
 recovered-some layout image replay some is =
     ap (λ b. cond b (recovered_as image (replayed layout image)) image) some ∙ ap (recovered_as image) is
 
--- ---- where no gate is open
+-- ---- if no gate is open
 pub quiet_recovers : {E : Type 0} (layout : Layout) {old m : Meaning} → homes_start layout < layout.blocks → 4096 * layout.blocks ≤ length old.bytes → Reading old m → has_open old.bytes ≡ false → Recovers {E = E} layout old m (Ok None)
 quiet_recovers layout {old} {m} enough long reading none =
     let closed = all_closed old.bytes none in
@@ -82,7 +82,7 @@ quiet_recovers layout {old} {m} enough long reading none =
       settled_past = λ settled n le. ap (block n) reading.reads;
     }
 
--- ---- where a record is not in form
+-- ---- if a record is malformed
 pub bad_recovers : {E : Type 0} (layout : Layout) (b : ℕ) {old m : Meaning} → Reading old m → has_open old.bytes ≡ true → bad_record layout old.bytes ≡ Some b → Recovers {E = E} layout old m (Ok (Some b))
 bad_recovers layout b {old} {m} reading some bad =
     let none = replayed-bad layout b old.bytes bad in
@@ -95,7 +95,7 @@ bad_recovers layout b {old} {m} reading some bad =
       settled_past = λ settled n le. ap (block n) reading.reads;
     }
 
--- ---- where a call failed before the first write
+-- ---- if a call failed before the first write
 pub failed_recovers : {E : Type 0} (layout : Layout) {old m : Meaning} (result : Result (Option ℕ) E) → IsErr result → Reading old m → Recovers {E = E} layout old m result
 failed_recovers layout (Ok x) failed reading = absurd (false≢true failed)
 failed_recovers layout (Err e) failed reading = record {
@@ -136,7 +136,7 @@ module _ {layout : Layout} {count : ℕ} {latest : List HomeBlock} {m : Meaning}
         rest = was.2.rest ∙ ap (behind_gates layout) (loaded.settled.only was.0 was.1);
       }
 
-  -- with the records that a checkpoint brings home
+  -- with the records that a checkpoint writes to their homes
   loaded_holds : Opened layout (records_of count (behind 2 count m.bytes) latest) [] (λ k. block k (apply (all_recorded 2 count m.bytes) m.bytes)) m.bytes
   loaded_holds =
       let sound = all_sound layout 2 count m.bytes loaded_full loaded.form in

@@ -1,4 +1,4 @@
--- Numbers in a row.
+-- Consecutive numbers.
 use Rattle.std.proofs.Common.{◌≡◌, ℕ, zero, suc, ◌+◌, ◌≤◌, ◌==◌, nat_lt, Bool, true, false, cond, ◌||◌, List, [], ◌∷◌, ◌++◌, take, drop, refl, sym, ap, ◌∙◌, arith, add-one, append_assoc}
 use Rattle.std.specs.List.{range_with_len, list_all}
 use Rattle.std.proofs.lemmas.Bool.{and_from, lt-ltb, eqb-false, ne_eqb, false≢true}
@@ -12,11 +12,11 @@ range_next a (suc n) =
     let sum : a + 1 + n ≡ a + suc n = omega arith in
     ap (λ xs. a ∷ xs) (range_next (a + 1) n ∙ ap (λ k. range_with_len (a + 1) n ++ k ∷ []) sum)
 
--- with one number more behind these
+-- with one more number after these
 pub row_more : (row : List ℕ) (a n : ℕ) → (row ++ range_with_len a n) ++ (a + n) ∷ [] ≡ row ++ range_with_len a (n + 1)
 row_more row a n = append_assoc row (range_with_len a n) ((a + n) ∷ []) ∙ ap (λ xs. row ++ xs) (sym (range_next a n) ∙ ap (range_with_len a) (sym (add-one n)))
 
--- numbers in a row are below a bound where the last one is
+-- consecutive numbers are below a bound if the last one is
 pub row_within : (a n bound : ℕ) → a + n ≤ bound → list_all (λ k. nat_lt k bound) (range_with_len a n) ≡ true
 row_within a zero bound le = refl
 row_within a (suc n) bound le =

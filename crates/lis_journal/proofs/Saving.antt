@@ -1,4 +1,4 @@
--- The phases over a disk: what stands at each moment, and what each phase leads to.
+-- The phases over a disk: what each image represents at each moment, and what each phase leads to.
 use Rattle.std.proofs.Common.{◌≡◌, inl, inr, ℕ, ◌+◌, ◌*◌, ◌<◌, ◌≤◌, List, [], ◌∷◌, length, replicate, true, IsTrue, ◌∙◌, ap, subst, arith, OnOk, Result, Ok, Err}
 use Rattle.lis_ports.specs.Meaning.{Meaning}
 use Rattle.lis_ports.specs.Bytes.{put, Torn}
@@ -40,7 +40,7 @@ plan_of s enough staging = record {
   home = home_from s.layout.blocks (homes_start s.layout) (s.layout.records + 1) s.entries (omega arith) staging.rise;
 }
 
--- ---- a record more
+-- ---- one more record
 pub record_moments : {layout : Layout} {count next : ℕ} {latest : List HomeBlock} {placed : List ℕ} {kept : ℕ → List ℕ} {a b : Meaning} (es : List HomeBlock) → next + record_len (length es) ≤ homes_start layout → FitsAt layout (records_of count next latest) placed a kept → Spreads a b (Torn (4096 * next) (4096 * record_len (length es))) → Leaves a b (StandsForAllOrNone layout placed kept es)
 record_moments {layout} {count} {next} {latest} {placed} {kept} es room fits spreads =
     leaves_weaken _ spreads.moments (λ image is.

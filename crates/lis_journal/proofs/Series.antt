@@ -1,4 +1,4 @@
--- Records one after another.
+-- Records in sequence.
 use Rattle.std.proofs.Common.{◌≡◌, ℕ, zero, suc, ◌+◌, ◌*◌, ◌<◌, ◌≤◌, ◌==◌, nat_le, Bool, true, false, cond, ◌&&◌, List, [], ◌∷◌, ◌++◌, length, take, drop, Some, None, IsTrue, refl, sym, ◌∙◌, ap, arith, append_assoc}
 use Rattle.std.proofs.lemmas.Bool.{and_parts, leb-true}
 use Rattle.std.proofs.lemmas.List.{append-nil, drop-drop}
@@ -23,7 +23,7 @@ pub end_above : (b : ℕ) (image : List ℕ) → b < record_end b image
 unfolding record_end
 end_above b image = omega arith
 
--- a record's contents, behind its header
+-- a record's contents, after its header
 pub length-homes : (b : ℕ) (image : List ℕ) → b + header_blocks (count_at b image) + length (homes_of (header_at b image)) ≡ record_end b image
 unfolding record_end
 length-homes b image = omega (arith, length-words 1 (count_of (header_at b image)) (header_at b image), count-header b image)
@@ -34,7 +34,7 @@ record_parts layout b image form =
     let parts = and_parts (is_header layout (header_at b image)) (nat_le (record_end b image) (homes_start layout)) form in
     (parts.0, leb-true (record_end b image) (homes_start layout) parts.1)
 
--- the first of n + 1 records is in form, and so are those behind it
+-- the first of n + 1 records is well formed, and so are those after it
 pub first_good : (layout : Layout) (b n : ℕ) (image : List ℕ) → first_bad layout b (suc n) image ≡ None → (is_record layout b image ≡ true) × (first_bad layout (record_end b image) n image ≡ None)
 first_good layout b n image good = by (is_record layout b image) good
   where
@@ -61,7 +61,7 @@ pub record SameRecords (layout : Layout) (b n : ℕ) (old new : List ℕ) : Type
   pub all : all_recorded b n new ≡ all_recorded b n old
   pub ends : behind b n new ≡ behind b n old
 
--- blocks in a row, by each of them
+-- consecutive blocks, by each of them
 parts_same : (b n : ℕ) (old new : List ℕ) → ((j : ℕ) → b ≤ j → j < b + n → block j new ≡ block j old) → part (4096 * b) (4096 * n) new ≡ part (4096 * b) (4096 * n) old
 parts_same b zero old new same = refl
 parts_same b (suc n) old new same =
@@ -125,7 +125,7 @@ records_same layout b (suc n) old new same =
       ends = ap (λ e. behind e n new) ends ∙ rest.ends;
     }
 
--- ---- one record more
+-- ---- one more record
 pub behind-more : (b n : ℕ) (image : List ℕ) → behind b (suc n) image ≡ record_end (behind b n image) image
 behind-more b zero image = refl
 behind-more b (suc n) image = behind-more (record_end b image) n image
@@ -142,7 +142,7 @@ form-more layout b (suc n) image good form =
     let parts = first_good layout b n image good in
     ap (λ f. cond f (first_bad layout (record_end b image) (suc n) image) (Some b)) parts.0 ∙ form-more layout (record_end b image) n image parts.1 form
 
--- the first bad one behind n good ones
+-- the first bad one after n good ones
 pub form-bad : (layout : Layout) (b n m : ℕ) (image : List ℕ) → n < m → first_bad layout b n image ≡ None → is_record layout (behind b n image) image ≡ false → first_bad layout b m image ≡ Some (behind b n image)
 form-bad layout b n zero image lt good bad = absurd (omega arith)
 form-bad layout b zero (suc m) image lt good bad = ap (λ f. cond f (first_bad layout (record_end b image) m image) (Some b)) bad

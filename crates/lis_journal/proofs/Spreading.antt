@@ -54,7 +54,7 @@ spreads_weaken S spreads weaker = record {
   reads = (spreads.reads.0, spreads.reads.1, weaker spreads.reads.0 _ spreads.reads.2);
 }
 
--- two runs in a row
+-- two runs in sequence
 pub spreads_then : {a b c : Meaning} (R : List ℕ → List ℕ → Type 0) → ((x y z : List ℕ) → R x y → R y z → R x z) → Spreads a b R → Spreads b c R → Spreads a c R
 spreads_then {a} {b} {c} R trans ab bc = record {
   moments = leaves_then ab.moments (leaves_weaken _ bc.moments (λ image is.
@@ -79,7 +79,7 @@ spreads_write_sync at n result run_ab time_ab torn run_bc time_bc synced unsynce
     (spreads_torn (Torn at n) at n run_ab time_ab (torn honest) (λ from image t. t))
     (spreads_sync (Torn at n) result run_bc time_bc synced unsynced (torn_refl at n) (run_ab.honest ∙ honest))
 
--- what R carries on is true at the end
+-- what R preserves is true at the end
 pub always_spread : {a b : Meaning} {S : List ℕ → Type 0} (R : List ℕ → List ℕ → Type 0) (T : List ℕ → Type 0) → Always a S → Spreads a b R → ((from image : List ℕ) → S from → R from image → T image) → Always b T
 always_spread {a} {b} {S} R T all spreads step = record {
   reads = step spreads.reads.0 b.bytes

@@ -1,4 +1,4 @@
--- Writing all staged blocks, one call of the disk after another.
+-- Writing all staged blocks, one disk call after another.
 use Rattle.std.proofs.Common.{◌≡◌, ℕ, zero, suc, ◌+◌, ◌*◌, ◌<◌, ◌≤◌, ◌==◌, List, [], ◌∷◌, ◌++◌, length, get_or, take, IsTrue, refl, sym, ◌∙◌, ap, subst, arith}
 use Rattle.std.specs.List.{list_all}
 use Rattle.std.proofs.lemmas.Bool.{and_parts, eqb-true}
@@ -46,11 +46,11 @@ apply-append : (es fs : List HomeBlock) (image : List ℕ) → apply (es ++ fs) 
 apply-append [] fs image = refl
 apply-append (e ∷ es) fs image = apply-append es fs (put image (4096 * e.home) e.bytes)
 
--- one entry more
+-- one more entry
 pub apply-more : (ps : List HomeBlock) (k : ℕ) (d : HomeBlock) (image : List ℕ) → k < length ps → apply (take (k + 1) ps) image ≡ put (apply (take k ps) image) (4096 * (get_or ps k d).home) (get_or ps k d).bytes
 apply-more ps k d image lt = ap (λ es. apply es image) (take_more ps k d lt) ∙ apply-append (take k ps) (get_or ps k d ∷ []) image
 
--- What was written by the k-th turn.
+-- What was written by the k-th turn of the loop.
 pub record SoFar (old now : Meaning) (ps : List HomeBlock) (k : ℕ) : Type 0 where
   pub run : IsDiskRun old now
   pub faults : now.disk_faults ≡ old.disk_faults
@@ -67,7 +67,7 @@ begin m ps = record {
   written = λ honest. refl;
 }
 
--- the spreading over one write more, failed or not
+-- what is written spreads over one more write, failed or not
 pub spread_on : {old now next : Meaning} (ps : List HomeBlock) (k : ℕ) (d : HomeBlock) (at n : ℕ) → k < length ps → at ≡ 4096 * (get_or ps k d).home → n ≡ 4096 → (IsTrue old.is_honest → Spreads old now (Touched ps)) → IsDiskRun old now → IsDiskRun now next → Elapses now next → (IsTrue now.is_honest → IsTorn at n now next) → IsTrue old.is_honest → Spreads old next (Touched ps)
 spread_on {old} {now} {next} ps k d at n lt is_at is_n spreads before run time torn honest =
     let torn_at : IsTorn (4096 * (get_or ps k d).home) 4096 now next =

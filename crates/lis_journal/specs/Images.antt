@@ -1,4 +1,4 @@
--- What an image stands for, outside the gates and the records.
+-- What an image represents, outside the gates and the records.
 use Rattle.std.specs.Prelude.{◌≡◌, ◌⊎◌, ℕ, zero, suc, ◌+◌, ◌*◌, ◌<◌, ◌≤◌, ◌==◌, nat_lt, Bool, false, if◌then◌else◌, List, [], ◌∷◌, ◌++◌, length, take, drop, None, IsTrue, IsSomeAnd}
 use Rattle.std.specs.List.{list_any}
 use Rattle.lis_limits.specs.declared.TheConstants.{BLOCK_LEN, GATES}
@@ -19,17 +19,17 @@ pub record Keeps (layout : Layout) (kept : ℕ → List ℕ) (image : List ℕ) 
 abbrev pub is_among : List ℕ → ℕ → Bool
 is_among placed n = list_any (λ m. m == n) placed
 
--- the same, but for the placed blocks, which may hold any bytes
+-- the same, except for the placed blocks, which may have any bytes
 pub record KeepsBut (layout : Layout) (placed : List ℕ) (kept : ℕ → List ℕ) (image : List ℕ) : Type 0 where
   pub long : BLOCK_LEN * layout.blocks ≤ length image
   pub same : (n : ℕ) → IsOutside layout n → is_among placed n ≡ false → block n image ≡ kept n
 
--- A journal may be used on this disk: it is not broken, and the disk has all its blocks.
+-- A journal may be used on this disk: it is not broken, and the disk has all blocks of the image.
 pub record JournalIsUsable (journal : Held) (m : Meaning) : Type 0 where
   pub unbroken : journal.is_broken ≡ false
   pub long : BLOCK_LEN * journal.layout.blocks ≤ m.len
 
--- It is long enough itself, and has a replayed image, which keeps these blocks.
+-- The image is long enough, and has a replayed image, which keeps these blocks.
 unfoldable pub StandsFor : Layout → (ℕ → List ℕ) → List ℕ → Type 0
 StandsFor layout kept image = (BLOCK_LEN * layout.blocks ≤ length image) × IsSomeAnd (replayed layout image) (Keeps layout kept)
 
@@ -37,18 +37,18 @@ unfoldable pub StandsBut : Layout → List ℕ → (ℕ → List ℕ) → List �
 StandsBut layout placed kept image =
     (BLOCK_LEN * layout.blocks ≤ length image) × IsSomeAnd (replayed layout image) (KeepsBut layout placed kept)
 
--- what a block holds when these entries are in their homes, if `old` was there
+-- what a block has when these entries are in their homes, if `old` was there
 abbrev pub look : List HomeBlock → ℕ → List ℕ → List ℕ
 look [] n old = old
 look (e ∷ entries) n old = look entries n (if n == e.home then e.bytes else old)
 
--- It stands for the blocks as before, but for the placed ones, or for all of them with all entries in their homes.
+-- The image represents the blocks as before, except for the placed ones, or all of them with all entries in their homes.
 abbrev pub StandsForAllOrNone : Layout → List ℕ → (ℕ → List ℕ) → List HomeBlock → List ℕ → Type 0
 StandsForAllOrNone layout placed kept entries image =
     StandsBut layout placed kept image ⊎ StandsFor layout (λ n. look entries n (kept n)) image
 
--- The image has these records from block 2 on, in form and one after another. With the latest contents in their homes it has the
--- blocks of `kept`, but for the placed ones.
+-- The image has these records from block 2 on, well formed and in sequence. With the latest contents in their homes it has the blocks of
+-- `kept`, except for the placed ones.
 pub record Holds (layout : Layout) (records : OpenRecords) (placed : List ℕ) (kept : ℕ → List ℕ) (image : List ℕ) : Type 0 where
   pub enough : homes_start layout < layout.blocks
   pub long : BLOCK_LEN * layout.blocks ≤ length image
@@ -57,13 +57,13 @@ pub record Holds (layout : Layout) (records : OpenRecords) (placed : List ℕ) (
   pub latest : (n : ℕ) (old : List ℕ) → look (all_recorded 2 records.count image) n old ≡ look records.latest n old
   pub same : (n : ℕ) → IsOutside layout n → is_among placed n ≡ false → look records.latest n (block n image) ≡ kept n
 
--- It holds these records, their gates are open, and all other gates are closed.
+-- The image has these records, their gates are open, and all other gates are closed.
 pub record IsAtRest (layout : Layout) (records : OpenRecords) (placed : List ℕ) (kept : ℕ → List ℕ) (image : List ℕ) : Type 0 where
   pub few : records.count ≤ GATES
   pub holds : Holds layout records placed kept image
   pub gates : (k : ℕ) → k < GATES → is_open k image ≡ nat_lt k records.count
 
--- A disk keeps these blocks under these records: it is honest, and it is at rest as it reads, and in each image but for the placed
+-- A disk keeps these blocks under these records: it is honest, and it is at rest as it reads, and in each image except for the placed
 -- blocks.
 pub record FitsAt (layout : Layout) (records : OpenRecords) (placed : List ℕ) (m : Meaning) (kept : ℕ → List ℕ) : Type 0 where
   pub honest : IsTrue m.is_honest
@@ -74,8 +74,8 @@ pub record FitsAt (layout : Layout) (records : OpenRecords) (placed : List ℕ) 
 abbrev pub Fits : Held → Meaning → (ℕ → List ℕ) → Type 0
 Fits journal m kept = FitsAt journal.layout journal.records journal.placed m kept
 
--- what a block holds where the disk reads as these bytes: what is staged for it, or else its latest content in the open records, or else
--- what it has
+-- what a block has if the disk reads as these bytes: what is staged for it, or otherwise its latest content in the open records, or
+-- otherwise what is on the disk
 abbrev pub held_in : Held → List ℕ → ℕ → List ℕ
 held_in journal bytes n = look journal.staged n (look journal.records.latest n (block n bytes))
 
@@ -87,7 +87,7 @@ with_placed placed n = if is_among placed n then placed else placed ++ n ∷ []
 abbrev pub with_kept : ℕ → List ℕ → (ℕ → List ℕ) → ℕ → List ℕ
 with_kept n bytes kept k = if k == n then bytes else kept k
 
--- the blocks that are kept, with these bytes in so many blocks from this one on
+-- the blocks that are kept, with these bytes in `count` blocks from this one on
 abbrev pub with_run : ℕ → ℕ → List ℕ → (ℕ → List ℕ) → ℕ → List ℕ
 with_run n zero bytes kept = kept
 with_run n (suc count) bytes kept = with_run (n + 1) count (drop BLOCK_LEN bytes) (with_kept n (take BLOCK_LEN bytes) kept)

@@ -27,7 +27,7 @@ abbrev pub IsFresh : ℕ → List Staged → Type 0
 IsFresh frame [] = Unit {0}
 IsFresh frame (s ∷ ss) = (s.frame ≢ frame) × IsFresh frame ss
 
--- each block is in a frame of its own
+-- each block is in a separate frame
 abbrev pub AreApart : List Staged → Type 0
 AreApart [] = Unit {0}
 AreApart (s ∷ ss) = IsFresh s.frame ss × AreApart ss
@@ -42,13 +42,13 @@ pub record IsStage (r : region.Region ℕ) (staged : List Staged) (room : ℕ) (
 abbrev pub home_list : List Staged → List ℕ
 home_list staged = map (λ s. s.home) staged
 
--- a block is staged at this place, and those before it have lower homes
+-- a block is staged at this index, and those before it have lower homes
 abbrev pub FoundAt : ℕ → ℕ → List Staged → Type 0
 FoundAt n k [] = ⊥
 FoundAt n zero (s ∷ ss) = s.home ≡ n
 FoundAt n (suc k) (s ∷ ss) = (s.home < n) × FoundAt n k ss
 
--- a block that is not staged has its place here
+-- a block that is not staged belongs at this index
 abbrev pub PlaceFor : ℕ → ℕ → List Staged → Type 0
 PlaceFor n zero [] = Unit {0}
 PlaceFor n zero (s ∷ ss) = n < s.home
@@ -60,7 +60,7 @@ pub record Log : Type 0 where
   pub layout : Layout
   pub records : OpenRecords
 
--- Each record takes a block more than it has contents, or more. So many blocks as all records can have contents can be in memory.
+-- Each record takes at least one block more than it has contents. As many blocks as all records can have contents can be in memory.
 pub record IsLog (log : Log) (capacity : ℕ) : Type 0 where
   pub enough : homes_start log.layout < log.layout.blocks
   pub few : log.records.count ≤ GATES

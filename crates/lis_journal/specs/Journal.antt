@@ -1,11 +1,11 @@
--- A journal as it is seen.
+-- A journal as a contract sees it.
 use Rattle.std.specs.Prelude.{◌≡◌, ℕ, Bool, List, []}
 use Rattle.lis_journal.specs.declared.layout.Layout.{Layout}
 use Rattle.lis_journal.specs.declared.layout.Capacity.{Capacity}
 use Rattle.lis_journal.specs.Record.{HomeBlock}
 
--- The open records: how many there are, the block behind them, and the latest content of each block that is in them, in the order
--- of their homes.
+-- The open records: how many there are, the block after them, and the latest content of each block that is in them, in the order of their
+-- homes.
 pub record OpenRecords : Type 0 where
   pub count : ℕ
   pub next : ℕ
@@ -27,7 +27,7 @@ pub record Held : Type 0 where
   pub placed : List ℕ
   pub is_broken : Bool
 
--- What stays from a journal's making on: how its image is divided, and how much can be staged and placed.
+-- What stays from when a journal is made: how its image is divided, and how much can be staged and placed.
 pub record Shape : Type 0 where
   pub layout : Layout
   pub capacity : Capacity

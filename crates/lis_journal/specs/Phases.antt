@@ -12,20 +12,20 @@ use Rattle.lis_journal.specs.Recovery.{InRecovery}
 use Rattle.lis_journal.specs.declared.commit.Target.{Target}
 use Rattle.lis_journal.specs.declared.commit.Target.TheVariants.{Record, Homes}
 
--- the record that begins at block b is in form and holds these entries
+-- the record that begins at block b is well formed and has these entries
 pub record Spelled (layout : Layout) (b : ℕ) (es : List HomeBlock) (image : List ℕ) : Type 0 where
   pub form : is_record layout b image ≡ true
   pub holds : recorded b image ≡ es
   pub ends : record_end b image ≡ b + record_len (length es)
 
--- A record more is whole behind the open ones, and its gate may be anything.
+-- One more record is complete after the open ones, and its gate may be anything.
 pub record Unsure (layout : Layout) (records : OpenRecords) (kept : ℕ → List ℕ) (es : List HomeBlock) (image : List ℕ) : Type 0 where
   pub few : records.count < GATES
   pub holds : Holds layout records [] kept image
   pub spelled : Spelled layout records.next es image
   pub gates : (k : ℕ) → k < GATES → k ≢ records.count → is_open k image ≡ nat_lt k records.count
 
--- These records are the open ones. Gates behind the first closed one may be anything.
+-- These records are the open ones. Gates after the first closed one may be anything.
 pub record Opened (layout : Layout) (records : OpenRecords) (placed : List ℕ) (kept : ℕ → List ℕ) (image : List ℕ) : Type 0 where
   pub holds : Holds layout records placed kept image
   pub counted : open_count image ≡ records.count
@@ -48,7 +48,7 @@ pub record IsOpened (layout : Layout) (records : OpenRecords) (placed : List ℕ
   pub reads : Opened layout records [] kept m.bytes
   pub leaves : (image : List ℕ) → m.images image → Opened layout records placed kept image
 
--- what closing the gates begins with: a gate is open, all open records are in form, and their contents are in memory
+-- what closing the gates begins with: a gate is open, all open records are well formed, and their contents are in memory
 pub record IsLoaded (layout : Layout) (count : ℕ) (latest : List HomeBlock) (m : Meaning) : Type 0 where
   pub honest : IsTrue m.is_honest
   pub opened : has_open m.bytes ≡ true
@@ -75,17 +75,17 @@ looked es kept n = look es n (kept n)
 abbrev pub Absorbs : List HomeBlock → List HomeBlock → List HomeBlock → Type 0
 Absorbs earlier es later = (n : ℕ) (old : List ℕ) → look later n old ≡ look es n (look earlier n old)
 
--- the entries with blocks in a row as their homes
+-- the entries with consecutive blocks as their homes
 abbrev pub renumbered : ℕ → List HomeBlock → List HomeBlock
 renumbered n [] = []
 renumbered n (e ∷ es) = record { home = n; bytes = e.bytes } ∷ renumbered (n + 1) es
 
--- the entries where they are written: in a row of blocks of a record, or at home
+-- the entries where they are written: in consecutive blocks of a record, or in their homes
 abbrev pub at_target : Target → List HomeBlock → List HomeBlock
 at_target (Record first) es = renumbered first es
 at_target Homes es = es
 
--- so many blocks of a record end before the home blocks
+-- n blocks of a record end before the home blocks
 abbrev pub FitsTarget : Layout → Target → ℕ → Type 0
 FitsTarget layout (Record first) n = first + n ≤ homes_start layout
 FitsTarget layout Homes n = Unit {0}

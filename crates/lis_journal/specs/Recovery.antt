@@ -10,25 +10,25 @@ use Rattle.lis_journal.specs.Record.{block, has_open, behind_gates, bad_record, 
 use Rattle.lis_journal.specs.Journal.{Held, no_records}
 use Rattle.lis_journal.specs.Images.{StandsFor, FitsAt, Fits, KeepsPast}
 
--- A disk fault comes only where the count rose, and at each other answer the count stays.
+-- A disk fault comes only if the count rose, and at each other result the count stays.
 abbrev pub HasMountCause : {T : Type 0} → ℕ → ℕ → Result T JournalFault → Type 0
 HasMountCause before now (Ok journal) = now ≡ before
 HasMountCause before now (Err DiskFault) = Rose before now
 HasMountCause before now (Err (BadRecord b)) = now ≡ before
 HasMountCause before now (Err NoMemory) = now ≡ before
 
--- The image stands for what the replayed image of these bytes has.
+-- The image represents what the replayed image of these bytes has.
 abbrev pub StandsForReplayed : Layout → List ℕ → List ℕ → Type 0
 StandsForReplayed layout bytes image = IsSomeAnd (replayed layout bytes) (λ r. StandsFor layout (λ n. block n r) image)
 
--- What a crash leaves while records are brought home and gates are closed: a gate was open, the image stands for what the replayed
--- image has, and the journal's bytes behind the gates are those of before. The gates may be any bytes.
+-- What a crash leaves while records are written to their homes and gates are closed: a gate was open, the image represents what the
+-- replayed image has, and the journal's bytes after the gates are those of before. The gates may be any bytes.
 pub record InRecovery (layout : Layout) (bytes image : List ℕ) : Type 0 where
   pub opened : has_open bytes ≡ true
   pub stands : StandsForReplayed layout bytes image
   pub rest : behind_gates layout image ≡ behind_gates layout bytes
 
--- The answer, by the bytes as they read at the call's start.
+-- The result, by the bytes as they read at the start of the call.
 abbrev pub MountEnded : Layout → Meaning → Meaning → Result Held JournalFault → Type 0
 MountEnded layout old new (Ok journal) = IsSomeAnd (replayed layout old.bytes) (λ r. Fits journal new (λ n. block n r))
 MountEnded layout old new (Err DiskFault) = Unit {0}
@@ -51,7 +51,7 @@ IsSettledPast blocks m = (image : List ℕ) → m.images image → (n : ℕ) →
 abbrev pub LeftOrRecovering : Layout → Meaning → List ℕ → Type 0
 LeftOrRecovering layout old image = old.images image ⊎ InRecovery layout old.bytes image
 
--- A recovery that answers the block of the first bad record, or none.
+-- A recovery that returns the block of the first bad record, or none.
 pub record Recovers {E : Type 0} (layout : Layout) (old new : Meaning) (result : Result (Option ℕ) E) : Type 0 where
   pub moments : Leaves old new (LeftOrRecovering layout old)
   pub images : OnOk result ((image : List ℕ) → new.images image → LeftOrRecovering layout old image)

@@ -1,4 +1,4 @@
--- A run of disk calls by what it makes of each image.
+-- A run of disk calls, by what it makes of each image.
 use Rattle.std.specs.Prelude.{◌≡◌, ◌⊎◌, ℕ, ◌*◌, ◌+◌, ◌≤◌, List, [], ◌∷◌, length}
 use Rattle.lis_limits.specs.declared.TheConstants.{BLOCK_LEN}
 use Rattle.lis_ports.specs.Meaning.{Meaning}
@@ -24,7 +24,7 @@ abbrev pub IsClear : List HomeBlock → ℕ → ℕ → Type 0
 IsClear [] at n = Unit {0}
 IsClear (e ∷ entries) at n = ((at + n ≤ BLOCK_LEN * e.home) ⊎ (BLOCK_LEN * e.home + BLOCK_LEN ≤ at)) × IsClear entries at n
 
--- the same bytes wherever it is clear of the blocks of these entries
+-- the same bytes in each range that is clear of the blocks of these entries
 pub record Touched (entries : List HomeBlock) (old new : List ℕ) : Type 0 where
   pub len : length new ≡ length old
   pub clear : (at n : ℕ) → IsClear entries at n → part at n new ≡ part at n old
@@ -33,7 +33,7 @@ pub record Touched (entries : List HomeBlock) (old new : List ℕ) : Type 0 wher
 abbrev pub SamePast : ℕ → List ℕ → List ℕ → Type 0
 SamePast blocks old new = (n : ℕ) → blocks ≤ n → block n new ≡ block n old
 
--- the same bytes past the image, and in the journal behind the gates
+-- the same bytes after the image, and in the journal after the gates
 pub record SameAround (layout : Layout) (old new : List ℕ) : Type 0 where
   pub past : SamePast layout.blocks old new
   pub rest : behind_gates layout new ≡ behind_gates layout old

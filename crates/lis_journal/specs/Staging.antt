@@ -1,17 +1,17 @@
--- Staged blocks as they are seen: a finite map from homes to contents.
+-- Staged blocks as a contract sees them: a finite map from homes to contents.
 use Rattle.std.specs.Prelude.{◌≡◌, ℕ, ◌+◌, ◌^◌, ◌<◌, ◌≤◌, ◌==◌, nat_lt, Bool, false, if◌then◌else◌, List, [], ◌∷◌, length, IsTrue}
 use Rattle.std.specs.List.{list_all, list_any}
 use Rattle.lis_limits.specs.declared.TheConstants.{BLOCK_LEN}
 use Rattle.lis_journal.specs.declared.layout.Layout.{Layout}
 use Rattle.lis_journal.specs.Record.{HomeBlock, homes, rises}
 
--- for an image of this layout, so many entries at most, in the order of their homes
+-- for an image of this layout, at most `capacity` entries, in the order of their homes
 pub record Staging : Type 0 where
   pub layout : Layout
   pub capacity : ℕ
   pub entries : List HomeBlock
 
--- the entries with this one, in the place of that of its home if there is one
+-- the entries with this one, instead of that of its home if there is one
 abbrev pub with_entry : List HomeBlock → ℕ → List ℕ → List HomeBlock
 with_entry [] home bytes = record { home = home; bytes = bytes } ∷ []
 with_entry (e ∷ es) home bytes =
@@ -26,7 +26,7 @@ has_entry es n = list_any (λ e. e.home == n) es
 abbrev pub are_whole : List HomeBlock → Bool
 are_whole es = list_all (λ e. length e.bytes == BLOCK_LEN) es
 
--- none of so many blocks from this one on is staged
+-- none of `count` blocks from `first` on is staged
 abbrev pub HasNone : List HomeBlock → ℕ → ℕ → Type 0
 HasNone es first count = (n : ℕ) → first ≤ n → n < first + count → has_entry es n ≡ false
 

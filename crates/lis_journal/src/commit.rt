@@ -23,7 +23,7 @@ const CLOSED: u8 = 0;
 
 const OPEN: u8 = 1;
 
-/// Where staged blocks are written: in a row of blocks from this one on, or at home.
+/// Where staged blocks are written: in consecutive blocks from this one on, or in their homes.
 #[derive(Clone, Copy)]
 pub enum Target {
     Record(u32),
@@ -45,7 +45,7 @@ fn address(stage: &Stage, target: Target, k: usize) -> u64
     }
 }
 
-// Writes all staged blocks, each in a call of its own.
+// Writes all staged blocks, each in a separate call.
 fn write_blocks<D: Disk>(disk: &mut D, stage: &Stage, target: Target) -> Result<(), Failed>
     requires blocks { homes_start stage.now.layout < stage.now.layout.blocks }
     requires long { BLOCK_LEN * stage.now.layout.blocks ≤ (D.meaning disk.old).len }
@@ -79,7 +79,7 @@ fn write_synced<D: Disk>(disk: &mut D, stage: &Stage, target: Target) -> Result<
     disk.sync()
 }
 
-// Writes a gate, in a write of its own, and syncs.
+// Writes a gate, in a separate write, and syncs.
 fn write_gate<D: Disk>(disk: &mut D, gate: u32, value: u8) -> Result<(), Failed>
     requires gate { gate < GATES }
     requires long { 2 * BLOCK_LEN ≤ (D.meaning disk.old).len }
@@ -93,7 +93,7 @@ fn write_gate<D: Disk>(disk: &mut D, gate: u32, value: u8) -> Result<(), Failed>
     disk.sync()
 }
 
-/// Closes the gates 1 to 63 in one write, and syncs. Gate 0 has to be closed on the disk.
+/// Closes the gates 1 to 63 in one write, and syncs. Gate 0 must be closed on the disk.
 pub fn close_others<D: Disk>(disk: &mut D) -> Result<(), Failed>
     requires { 2 * BLOCK_LEN ≤ (D.meaning disk.old).len }
     ensures disk { UsesDisk (D.meaning disk.old) (D.meaning disk.new) result }
@@ -128,7 +128,7 @@ fn write_record<D: Disk>(
     write_synced(disk, stage, contents)
 }
 
-/// Makes the staged blocks kept by one record more: it writes the record behind the open ones, and then opens its gate.
+/// Commits the staged blocks by one more record: it writes the record after the open ones, and then opens its gate.
 pub fn append<D: Disk>(
     disk: &mut D,
     header: &[u8],
@@ -161,7 +161,7 @@ pub fn append<D: Disk>(
     write_gate(disk, count, OPEN)
 }
 
-/// Writes the latest contents of all open records home, and then closes the gates: gate 0 first, and then all others.
+/// Writes the latest contents of all open records to their homes, and then closes the gates: gate 0 first, and then all others.
 pub fn checkpoint<D: Disk>(disk: &mut D, latest: &Stage) -> Result<(), Failed>
     requires blocks { homes_start latest.now.layout < latest.now.layout.blocks }
     requires long { BLOCK_LEN * latest.now.layout.blocks ≤ (D.meaning disk.old).len }

@@ -1,4 +1,4 @@
-//! The header of a record: how many blocks it holds, and their homes.
+//! The header of a record: how many contents it has, and their homes.
 
 ghost use Rattle.std.specs.Prelude.{◌≡◌, ◌+◌, ◌*◌, ◌<◌, ◌≤◌, ◌==◌, ◌^◌, nat_le, take, length, IsTrue};
 ghost use Rattle.std.specs.Int.{w32, to_le_bytes};
@@ -10,14 +10,14 @@ use crate::layout::Layout;
 use crate::stage::Stage;
 use lis_limits::BLOCK_LEN;
 
-/// How many blocks the header of a record of so many homes has.
+/// How many blocks the header of a record of `count` homes has.
 pub fn header_blocks(count: u32) -> u32
     ensures { result ≡ header_blocks count }
 {
     count / (BLOCK_LEN as u32 / 4) + 1
 }
 
-/// How many bytes it has.
+/// How many bytes that header has.
 pub fn header_len(count: u32) -> usize
     ensures { result ≡ BLOCK_LEN * header_blocks count }
 {
@@ -32,7 +32,7 @@ pub fn record_len(count: u32) -> u32
     header_blocks(count) + count
 }
 
-/// Whether a record of so many homes that begins at this block ends before the home blocks.
+/// Whether a record of `count` homes that begins at this block ends before the home blocks.
 pub fn has_end(layout: Layout, first: u32, count: u32) -> bool
     requires { homes_start layout < 2 ^ 32 }
     ensures { result ≡ nat_le (first + record_len count) (homes_start layout) }
@@ -76,7 +76,7 @@ pub fn write_header(header: &mut [u8], stage: &Stage)
     }
 }
 
-/// Writes it into the front of this.
+/// Writes that header into the first bytes of `front`.
 pub fn write_front(front: &mut [u8], stage: &Stage)
     requires { BLOCK_LEN * header_blocks (length stage.now.entries) ≤ length front.old }
     ensures form { 0 < length stage.now.entries
@@ -87,7 +87,7 @@ pub fn write_front(front: &mut [u8], stage: &Stage)
     write_header(&mut front[..len], stage);
 }
 
-/// Whether a header has this count and is in form.
+/// Whether a header has this count and is well formed.
 pub fn is_header(header: &[u8], layout: Layout, count: u32) -> bool
     requires len { length header.now ≡ BLOCK_LEN * header_blocks count }
     requires records { layout.records + 1 < 2 ^ 32 }

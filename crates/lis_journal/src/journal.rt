@@ -1,4 +1,4 @@
-//! The journal: blocks are staged, and become kept all at once.
+//! The journal: blocks are staged, and committed all at once.
 
 ghost use Rattle.std.specs.Prelude.{[], ◌≡◌, ◌⊎◌, ◌+◌, ◌-◌, ◌*◌, ◌^◌, ◌<◌, ◌≤◌, ◌∷◌, ◌++◌, ℕ, List, length, vec_capacity, true, false, IsTrue, IfOk, IfSome, IfNone, OnOk, OnErr, Ok, Err, if◌then◌else◌, ◌==◌};
 ghost use Rattle.std.specs.List.{range_with_len};
@@ -31,8 +31,8 @@ pub enum JournalFault {
     NoMemory,
 }
 
-/// Blocks that are staged for an image of this layout, until they are kept, over the open records on the disk. No call
-/// takes memory after it is made.
+/// Blocks that are staged for an image of this layout until they are committed, over the open records on the disk. No call allocates memory
+/// after the journal is made.
 #[derive(Drop)]
 pub struct Journal {
     stage: Stage,
@@ -40,7 +40,7 @@ pub struct Journal {
     // The numbers of the blocks that were placed since the last commit.
     placed: Vec<u32>,
     most_placed: u32,
-    // Room for the longest header of a record, with what was last written or read in its front.
+    // Room for the longest header of a record. Its first bytes are the header that was last written or read.
     header: Vec<u8>,
     is_broken: bool,
 }
@@ -69,14 +69,14 @@ impl From<AllocError> for JournalFault {
     }
 }
 
-// So many zeros.
+// `len` zeros.
 fn zeros(alloc: Global, len: usize) -> Result<Vec<u8>, AllocError>
     ensures { IfOk result (λ zeros. length zeros.items ≡ len) }
 {
     vec![in alloc; 0; len]
 }
 
-// What a mounted journal keeps of memory, and a block to read into.
+// What a mounted journal keeps in memory, and a block to read into.
 #[derive(Drop)]
 struct Buffers {
     placed: Vec<u32>,
@@ -87,8 +87,8 @@ struct Buffers {
     latest: Stage,
 }
 
-// Takes the buffers, what has most parts last: whatever was taken before is given back where a later part can't be had, and each such
-// end is checked with all that it gives back. So `mount` has one end for all of them.
+// Takes the buffers, the one with most parts last. If a later part can't be allocated, whatever was taken before is given back, and each
+// such end is checked with all that it gives back. So `mount` has one end for all of them.
 fn take_buffers(alloc: Global, layout: Layout, capacity: Capacity) -> Result<Buffers, AllocError>
     requires some { 1 ≤ layout.records }
     requires few { layout.records ≤ 2 ^ 16 }
@@ -135,7 +135,7 @@ fn mounted(buffers: Buffers) -> Journal
     }
 }
 
-// Puts so many numbers from this one on behind those that are there.
+// Adds `count` numbers from `first` on after those that are there.
 fn push_run(placed: &mut Vec<u32>, first: u32, count: u32)
     requires room { length placed.old.items + count ≤ vec_capacity placed.old }
     requires within { first + count ≤ 2 ^ 32 }
@@ -154,8 +154,9 @@ impl Journal {
     ghost use Rattle.lis_journal.specs.declared.journal.JournalFault.TheVariants.{DiskFault, NoMemory};
     ghost use Rattle.lis_journal.specs.Journal.{Held, no_records};
 
-    /// Opens the journal of an image of this layout, with nothing staged, and with room for so many staged and placed
-    /// blocks. It takes its memory before its first call of the disk. Then it syncs; where a gate is open it brings the open records home and closes all gates.
+    /// Opens the journal of an image of this layout, with nothing staged, and with room for the given numbers of staged and placed blocks.
+    /// It allocates its memory before its first disk call. Then it syncs. If a gate is open, it writes the open records to their homes and
+    /// closes all gates.
     pub fn mount<D: Disk>(
         alloc: Global,
         disk: &mut D,
@@ -173,17 +174,17 @@ impl Journal {
         ensures cause { HasMountCause (D.meaning disk.old).disk_faults (D.meaning disk.new).disk_faults result }
         ensures first_fault { DiskFaultEnds (D.meaning disk.old) (D.meaning disk.new) }
 
-        // Out of memory, it made no call of the disk.
+        // If memory runs out, it makes no disk call.
         ensures memory { result ≡ Err NoMemory → disk.new ≡ disk.old }
 
-        // What was read at the call's start decides: the journal fits what the replayed image has, or there is none, and
-        // the answer is the block of the first open record that is not in form.
+        // The bytes as they read at the start of the call decide the result: either the journal fits what the replayed image has, or there
+        // is no replayed image, and the result is the block of the first malformed open record.
         ensures ended { IsTrue (D.meaning disk.old).is_honest
             → MountEnded layout (D.meaning disk.old) (D.meaning disk.new) result }
 
-        // Nothing is written but what an open gate asks for: the latest contents of the open records in their homes, and
-        // then the gates. A crash in the call, and after it (`images`), leaves what it could have left before, or, where
-        // a gate was open, what stands for the replayed image with the journal's bytes behind the gates as before.
+        // Nothing is written except what an open gate requires: the latest contents of the open records to their homes, and then the gates.
+        // A crash in the call, and after it (`images`), leaves what it could have left before, or, if a gate was open, an image that
+        // represents the replayed image, with the journal's bytes after the gates as before.
         ensures left { OnOk result (IsTrue (D.meaning disk.old).is_honest
             → IsSettled (D.meaning disk.new) (recovered layout (D.meaning disk.old).bytes)) }
         ensures any_moment { IsTrue (D.meaning disk.old).is_honest
@@ -191,7 +192,7 @@ impl Journal {
         ensures images { OnOk result (IsTrue (D.meaning disk.old).is_honest → (image : List ℕ) → (D.meaning disk.new).images image
             → LeftOrRecovering layout (D.meaning disk.old) image) }
 
-        // What lies past the image reads as before; where the disk failed, if a crash at entry left it as it read.
+        // What follows the image reads as before; if the disk failed, then only if a crash at the start left it as it read.
         ensures past { IsTrue (D.meaning disk.old).is_honest → (result ≡ Err DiskFault → IsSettledPast layout.blocks (D.meaning disk.old))
             → KeepsPast layout.blocks (D.meaning disk.old) (D.meaning disk.new) }
     {
@@ -230,14 +231,14 @@ impl Journal {
         self.stage.len() as u32
     }
 
-    /// Whether a commit or a placing failed. Then only what is on the disk counts, and a journal has to be mounted again.
+    /// Whether a commit or a placing failed. Then only what is on the disk counts, and a journal must be mounted again.
     pub fn is_broken(&self) -> bool
         ensures { result ≡ self.now.is_broken }
     {
         self.is_broken
     }
 
-    // What is staged for a block, or else its latest content in the open records.
+    // What is staged for a block, or otherwise its latest content in the open records.
     fn content(&self, n: u32) -> Option<&[u8]>
         ensures none { IfNone result ((has_entry self.now.staged n ≡ false) × (has_entry self.now.records.latest n ≡ false)) }
         ensures some { IfSome result (λ bytes. (old : List ℕ)
@@ -250,7 +251,7 @@ impl Journal {
         }
     }
 
-    /// Reads a block: what is staged for it, or else what is kept. A block that is in an open record is read from memory.
+    /// Reads a block: what is staged for it, or otherwise what is kept. A block that is in an open record is read from memory.
     pub fn read<D: Disk>(&self, disk: &mut D, n: u32, buf: &mut [u8]) -> Result<(), Failed>
         requires home { homes_start self.now.layout ≤ n }
         requires within { n < self.now.layout.blocks }
@@ -273,7 +274,7 @@ impl Journal {
         }
     }
 
-    /// Stages what a block is to hold, in the place of what is staged for it.
+    /// Stages the content of a block, instead of what is staged for it.
     pub fn stage(&mut self, n: u32, bytes: &[u8])
         requires home { homes_start self.old.layout ≤ n }
         requires within { n < self.old.layout.blocks }
@@ -295,13 +296,13 @@ impl Journal {
         self.stage.clear();
     }
 
-    /// Makes the staged blocks kept, all or none of them. With nothing staged it makes no call of the disk.
+    /// Commits the staged blocks, all or none of them. With nothing staged it makes no disk call.
     pub fn commit<D: Disk>(&mut self, disk: &mut D) -> Result<(), Failed>
         requires usable { JournalIsUsable self.old (D.meaning disk.old) }
         ensures idle { self.old.staged ≡ [] → (result ≡ Ok _) × (disk.new ≡ disk.old) × (self.new ≡ self.old) }
 
-        // A crash at any moment of the call leaves an image that stands for the blocks as before, but for the placed ones,
-        // or for all of them with all that is staged.
+        // A crash at any moment of the call leaves an image that represents the blocks as before, except for the placed ones, or all of
+        // them with all that is staged.
         ensures any_moment { (kept : ℕ → List ℕ) → Fits self.old (D.meaning disk.old) kept
             → Leaves (D.meaning disk.old) (D.meaning disk.new)
             (StandsForAllOrNone self.old.layout self.old.placed kept self.old.staged) }
@@ -347,8 +348,8 @@ impl Journal {
         };
     }
 
-    /// Writes a home block without a record. Until the next commit it is placed: a crash may leave any bytes in it. Where
-    /// it is in an open record, a checkpoint is made first.
+    /// Writes a home block without a record. Until the next commit it is placed: a crash may leave any bytes in it. If it is in an open
+    /// record, a checkpoint is made first.
     pub fn place<D: Disk>(&mut self, disk: &mut D, n: u32, bytes: &[u8]) -> Result<(), Failed>
         requires home { homes_start self.old.layout ≤ n }
         requires within { n < self.old.layout.blocks }
@@ -357,8 +358,7 @@ impl Journal {
         requires unstaged { has_entry self.old.staged n ≡ false }
         requires room { IsTrue (is_among self.old.placed n) ⊎ (length self.old.placed < self.old.capacity.placed) }
 
-        // A crash at any moment of the call leaves an image that stands for the blocks as before, but for this and the
-        // placed ones.
+        // A crash at any moment of the call leaves an image that represents the blocks as before, except for this and the placed ones.
         ensures any_moment { (kept : ℕ → List ℕ) → Fits self.old (D.meaning disk.old) kept
             → Leaves (D.meaning disk.old) (D.meaning disk.new) (StandsBut self.old.layout (n ∷ self.old.placed) kept) }
         ensures kept { OnOk result ((kept : ℕ → List ℕ) → Fits self.old (D.meaning disk.old) kept
@@ -382,7 +382,7 @@ impl Journal {
         }
     }
 
-    /// Writes so many home blocks from this one on in one call, and without a record, as `place` does each of them.
+    /// Writes `count` home blocks from `first` on, in one call and without a record. `place` does so with one block.
     pub fn place_run<D: Disk>(
         &mut self,
         disk: &mut D,
@@ -398,8 +398,7 @@ impl Journal {
         requires unstaged { HasNone self.old.staged first count }
         requires room { length self.old.placed + count ≤ self.old.capacity.placed }
 
-        // A crash at any moment of the call leaves an image that stands for the blocks as before, but for these and the
-        // placed ones.
+        // A crash at any moment of the call leaves an image that represents the blocks as before, except for these and the placed ones.
         ensures any_moment { (kept : ℕ → List ℕ) → Fits self.old (D.meaning disk.old) kept
             → Leaves (D.meaning disk.old) (D.meaning disk.new)
             (StandsBut self.old.layout (range_with_len first count ++ self.old.placed) kept) }

@@ -3,8 +3,7 @@
 ghost use Rattle.std.specs.Prelude.{◌≡◌, ◌+◌, ◌^◌, ◌<◌};
 ghost use Rattle.lis_journal.specs.Record.{homes_start};
 
-/// How many blocks an image has for records, from block 2 on, and how many in all. The blocks behind the records are home
-/// blocks.
+/// How many blocks an image has for records, from block 2 on, and how many in all. The blocks after the records are home blocks.
 #[derive(Clone, Copy)]
 pub struct Layout {
     pub records: u32,

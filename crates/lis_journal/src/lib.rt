@@ -1,4 +1,4 @@
-//! A journal that makes staged blocks kept, all or none, at every moment.
+//! A journal that commits staged blocks, all or none, at every moment.
 #![tactic(auto)]
 
 mod commit;

@@ -1,4 +1,4 @@
-//! Mounting a journal: the open records are brought home first, and all gates are closed.
+//! Mounting a journal: the open records are written to their homes first, and then all gates are closed.
 
 ghost use Rattle.std.specs.Prelude.{[], ◌≡◌, ◌+◌, ◌*◌, ◌^◌, ◌<◌, ◌≤◌, ◌==◌, ℕ, List, None, nat_le, length, true, false, IsTrue, IfOk, IfSome, OnOk, MatchOption};
 ghost use Rattle.std.specs.List.{list_any, prefix_len};
@@ -51,7 +51,7 @@ fn count_open(gates: &[u8]) -> u32
     count
 }
 
-// Puts what a record holds, whose contents begin at this block, over what is staged.
+// Puts the contents of a record, which begin at this block, over what is staged.
 fn load<D: Disk>(
     disk: &mut D,
     contents: u32,
@@ -98,8 +98,8 @@ fn read_count<D: Disk>(disk: &mut D, first: u32) -> Result<u32, Failed>
     Ok(u32::from_le_bytes(bytes))
 }
 
-// Reads the record that begins at this block, and puts what it holds over what is staged. It answers the block behind
-// it, or none where it is not in form.
+// Reads the record that begins at this block, and puts its contents over what is staged. It returns the block after the record, or none if
+// the record is malformed.
 fn read_record<D: Disk>(
     disk: &mut D,
     first: u32,
@@ -140,7 +140,7 @@ fn read_record<D: Disk>(
     Ok(Some(first + record_len(count)))
 }
 
-// Stages the latest contents of so many records. It answers the block of the first that is not in form, if there is one.
+// Stages the latest contents of `count` records. It returns the block of the first malformed one, if there is one.
 fn load_records<D: Disk>(
     disk: &mut D,
     count: u32,
@@ -173,7 +173,7 @@ fn load_records<D: Disk>(
     Ok(None)
 }
 
-// Brings the open records home, if there are any, and closes all gates.
+// Writes the open records to their homes, if there are any, and closes all gates.
 fn close_gates<D: Disk>(disk: &mut D, count: u32, latest: &Stage) -> Result<(), Failed>
     requires blocks { homes_start latest.now.layout < latest.now.layout.blocks }
     requires long { BLOCK_LEN * latest.now.layout.blocks ≤ (D.meaning disk.old).len }
@@ -187,8 +187,8 @@ fn close_gates<D: Disk>(disk: &mut D, count: u32, latest: &Stage) -> Result<(), 
     checkpoint(disk, latest)
 }
 
-/// Syncs, and where a gate is open brings the open records home and closes all gates. It answers the block of the first
-/// open record that is not in form, if there is one. Then it writes nothing.
+/// Syncs. If a gate is open, it writes the open records to their homes and closes all gates. It returns the block of the first malformed
+/// open record, if there is one; then it writes nothing.
 pub fn recover<D: Disk>(
     disk: &mut D,
     latest: &mut Stage,

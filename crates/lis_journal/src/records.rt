@@ -20,7 +20,7 @@ use std::marker::Model;
 /// The block in which the first record begins.
 pub const FIRST_RECORD: u32 = 2;
 
-/// The open records: how many there are, the block behind them, and the latest content of each block in them.
+/// The open records: how many there are, the block after them, and the latest content of each block in them.
 #[derive(Drop)]
 pub struct Records {
     latest: Stage,
@@ -53,7 +53,7 @@ fn absorb(latest: &mut Stage, stage: &Stage)
     }
 }
 
-// Whether one of so many blocks from this one on is staged.
+// Whether one of `count` blocks from `first` on is staged.
 fn has_any(latest: &Stage, first: u32, count: u32) -> bool
     requires { first + count ≤ 2 ^ 32 }
     ensures none { result ≡ false → HasNone latest.now.entries first count }
@@ -71,7 +71,7 @@ impl Records {
     ghost use Rattle.lis_journal.specs.Journal.{no_records};
     ghost use Rattle.lis_journal.specs.Inside.{IsLog};
 
-    /// No open record. What is staged in `latest` has to be nothing.
+    /// No open record. Nothing may be staged in `latest`.
     pub fn new(latest: Stage) -> Self
         requires blocks { homes_start latest.layout < latest.layout.blocks }
         requires frames { latest.layout.records ≤ latest.capacity + 1 }
@@ -94,7 +94,7 @@ impl Records {
         self.latest.get(n)
     }
 
-    // Whether there is room for a record more of so many blocks. There always is where no record is open.
+    // Whether there is room for one more record of `blocks` contents. There always is if no record is open.
     fn has_room(&self, blocks: usize) -> bool
         requires { record_len blocks ≤ self.now.layout.records }
         ensures room { IsTrue result → (self.now.records.count < GATES) × (self.now.records.next + record_len blocks ≤ homes_start self.now.layout) }
@@ -130,7 +130,7 @@ impl Records {
         Ok(())
     }
 
-    // Makes a checkpoint where there is no room for a record more of so many blocks.
+    // Makes a checkpoint if there is no room for one more record of `blocks` contents.
     fn make_room<D: Disk>(&mut self, disk: &mut D, blocks: usize) -> Result<(), Failed>
         requires long { BLOCK_LEN * self.old.layout.blocks ≤ (D.meaning disk.old).len }
         requires few { record_len blocks ≤ self.old.layout.records }
@@ -152,7 +152,7 @@ impl Records {
         self.clear(disk)
     }
 
-    // Makes the staged blocks kept by one record more, for which there is room.
+    // Commits the staged blocks by one more record, for which there is room.
     fn append<D: Disk>(&mut self, disk: &mut D, header: &[u8], stage: &Stage) -> Result<(), Failed>
         requires long { BLOCK_LEN * self.old.layout.blocks ≤ (D.meaning disk.old).len }
         requires same { stage.now.layout ≡ self.old.layout }
@@ -181,7 +181,7 @@ impl Records {
         Ok(())
     }
 
-    /// Makes the staged blocks kept, by a record more. Where there is no room for it, it makes a checkpoint first.
+    /// Commits the staged blocks by one more record. If there is no room for it, it makes a checkpoint first.
     pub fn save<D: Disk>(
         &mut self,
         disk: &mut D,
@@ -211,7 +211,7 @@ impl Records {
         self.append(disk, header, stage)
     }
 
-    // Makes a checkpoint where one of so many blocks from this one on is in an open record.
+    // Makes a checkpoint if one of `count` blocks from `first` on is in an open record.
     fn free_homes<D: Disk>(&mut self, disk: &mut D, first: u32, count: u32) -> Result<(), Failed>
         requires within { first + count ≤ 2 ^ 32 }
         requires long { BLOCK_LEN * self.old.layout.blocks ≤ (D.meaning disk.old).len }
@@ -233,8 +233,8 @@ impl Records {
         self.clear(disk)
     }
 
-    /// Writes so many home blocks from this one on, in one call and without a record. Where one of them is in an open
-    /// record, it makes a checkpoint first.
+    /// Writes `count` home blocks from `first` on, in one call and without a record. If one of them is in an open record, it makes a
+    /// checkpoint first.
     pub fn write_homes<D: Disk>(
         &mut self,
         disk: &mut D,

@@ -10,14 +10,14 @@ use lis_region::{Frame, Pool};
 use std::alloc::{AllocError, Global};
 use std::marker::Model;
 
-// A block, and the frame that holds what it is to hold.
+// A block, and the frame with its content.
 #[derive(Drop)]
 pub struct Staged {
     home: u32,
     frame: Frame,
 }
 
-/// A finite map from home blocks to contents, for an image of this layout. It has so many contents at most.
+/// A finite map from home blocks to contents, for an image of this layout. It has at most `capacity` contents.
 #[derive(Drop)]
 pub struct Stage {
     layout: Layout,
@@ -39,7 +39,7 @@ impl Model for Stage {
     ghost invariant = { λ s. IsStage s.pool s.staged.items (vec_capacity s.staged) s.layout s.capacity };
 }
 
-// The place of a block where it is staged, or else the place that it would have.
+// The index of a block if it is staged, and otherwise the index that it would have.
 fn find(staged: &[Staged], n: u32) -> Result<usize, usize>
     requires { (blocks : ℕ) × ((last : ℕ) × IsTrue (rises blocks last (home_list staged.now))) }
     ensures bound { MatchResult result (λ k. k < length staged.now) (λ k. k ≤ length staged.now) }
@@ -67,7 +67,7 @@ impl Stage {
     ghost use Rattle.lis_journal.specs.Images.{look};
     ghost use Rattle.lis_journal.specs.Staging.{with_entry, has_entry, IsStaging};
 
-    /// Nothing staged. All memory that it will use is reserved here, and touched when a block is staged.
+    /// Nothing staged. All memory that the stage will use is reserved here, and touched when a block is staged.
     pub fn new(alloc: Global, layout: Layout, capacity: u32) -> Result<Self, AllocError>
         requires { capacity ≤ 2 ^ 16 }
         ensures { IfOk result (λ s. s ≡ record { layout = layout; capacity = capacity; entries = [] }) }
@@ -109,7 +109,7 @@ impl Stage {
         self.staged[k].home
     }
 
-    /// What the k-th block is to hold.
+    /// The content of the k-th block.
     pub fn bytes(&self, k: usize) -> &[u8]
         requires { k < length self.now.entries }
         ensures bytes { (d : HomeBlock) → result.now ≡ (slice_index_or self.now.entries k d).bytes }
@@ -118,7 +118,7 @@ impl Stage {
         self.pool.items(&self.staged[k].frame)
     }
 
-    /// What a block is to hold, if it is staged.
+    /// The content of a block, if it is staged.
     pub fn get(&self, n: u32) -> Option<&[u8]>
         ensures none { IfNone result (has_entry self.now.entries n ≡ false) }
         ensures has { OnSome result (has_entry self.now.entries n ≡ true) }
@@ -138,7 +138,7 @@ impl Stage {
         self.get(n).is_some()
     }
 
-    /// Stages a block, in the place of what is staged for it.
+    /// Stages a block, instead of what is staged for it.
     pub fn put(&mut self, n: u32, bytes: &[u8])
         requires home { homes_start self.old.layout ≤ n }
         requires within { n < self.old.layout.blocks }

@@ -1,4 +1,4 @@
--- A list with another element in one place.
+-- A list with another element at one index.
 use Rattle.std.proofs.Common.{arith}
 use Rattle.lis_kept.proofs.Common.{rules, ◌≡◌, ◌⊎◌, ℕ, zero, suc, ◌<◌, ◌≤◌, ◌||◌, cond, Bool, true, false, Some, None, slice_get, List, [], ◌∷◌, length, set, get_or, refl, sym, ap, ◌∙◌, subst, inl, inr, list_any, cases_lt, and_parts, eqb-true, lt-ltb, same_Some, slice_get_within, get_or_from_slice_get, among_from_any, AxiomSlot, FreeAxiom, Pair, Limits, both_ways}
 use Rattle.std.specs.List.{position, position_or_len}
@@ -27,7 +27,7 @@ set_there (z ∷ xs) zero y (suc k) differ = refl
 set_there (z ∷ xs) (suc i) y zero differ = refl
 set_there (z ∷ xs) (suc i) y (suc k) differ = set_there xs i y k (λ same. differ (ap suc same))
 
--- what stands in each place then
+-- what is at each index then
 pub set_cases : {X : Type 0} (xs : List X) (i : ℕ) (x y : X) → slice_get xs i ≡ Some x → (k : ℕ) (z : X) → slice_get (set xs i y) k ≡ Some z
     → ((k ≡ i) × (y ≡ z)) ⊎ ((k ≡ i → ⊥) × (slice_get xs k ≡ Some z))
 set_cases xs i x y at k z is = search (rules, same_Some, set_here, set_there)
@@ -35,13 +35,13 @@ set_cases xs i x y at k z is = search (rules, same_Some, set_here, set_there)
 or_around : (a b c : Bool) → a ≡ false → (b || c) ≡ (b || (a || c))
 or_around a b c none = ap (λ x. b || (x || c)) (sym none)
 
--- an element that passes the test comes in the place of one that does not, or of one that does not either
+-- an element, whether it passes the test or not, replaces one that does not
 pub any_set : {X : Type 0} (f : X → Bool) (xs : List X) (i : ℕ) (x y : X) → slice_get xs i ≡ Some x → f x ≡ false → list_any f (set xs i y) ≡ (f y || list_any f xs)
 any_set f [] i x y is none = absurd cc
 any_set f (z ∷ xs) zero x y is none = or_around (f z) (f y) (list_any f xs) (ap f (same_Some z x is) ∙ none)
 any_set f (z ∷ xs) (suc i) x y is none = ap (λ b. f z || b) (any_set f xs i x y is none) ∙ swapped (f z) (f y) (list_any f xs)
 
--- ---- the first place of an element
+-- ---- the first index of an element
 pub first_place : {X : Type 0} (test : X → Bool) (xs : List X) (d : X) (i : ℕ) → position test xs ≡ Some i → (slice_get xs i ≡ Some (get_or xs i d)) × (test (get_or xs i d) ≡ true)
 first_place test xs d i is = let found = position-Some test xs i d is in (slice_get-get_or xs i d found.0, found.1)
 
@@ -49,7 +49,7 @@ first_place test xs d i is = let found = position-Some test xs i d is in (slice_
 pub axiom_within : (limits : Limits) (slot : ℕ) → slot < limits.props → slot < (axiom_slots limits).count
 axiom_within limits slot lt = search (rules)
 
--- what stood there comes back
+-- what was there is put back
 pub set_back : {X : Type 0} (xs : List X) (i : ℕ) (x y : X) → slice_get xs i ≡ Some x → set (set xs i y) i x ≡ xs
 set_back [] i x y is = refl
 set_back (z ∷ xs) zero x y is = ap (λ w. w ∷ xs) (sym (same_Some z x is))
@@ -60,7 +60,7 @@ pub same_sides : {a b x y : ℕ} → ◌≡◌ {A = AxiomSlot} (Pair a b) (Pair 
 same_sides is = (cc, cc)
 
 -- ---- the first slot that passes a test
--- where some element passes it, there is a first one, and it is no later
+-- if some element passes it, there is a first one, and it is no later
 pub first_found : {X : Type 0} (test : X → Bool) (xs : List X) (i : ℕ) (x : X) → slice_get xs i ≡ Some x → test x ≡ true
     → (position test xs ≡ Some (position_or_len test xs)) × (position_or_len test xs ≤ i)
 first_found test xs i x at passes =
@@ -92,7 +92,7 @@ free_place axioms k is = let found = first_place is_free axioms FreeAxiom k is i
 pair_place : (axioms : List AxiomSlot) (left right k : ℕ) → position (is_pair left right) axioms ≡ Some k → slice_get axioms k ≡ Some (Pair left right)
 pair_place axioms left right k is = let found = first_place (is_pair left right) axioms FreeAxiom k is in found.0 ∙ ap Some (pair_is left right (get_or axioms k FreeAxiom) found.1)
 
--- a pair that is there is first somewhere; `seen` are the axioms as a call sees them, and `x` and `y` the numbers
+-- a pair that is there has a first slot; `seen` are the axioms as a call sees them, and `x` and `y` the numbers
 pub pair_found : (axioms seen : List AxiomSlot) (left right x y : ℕ) → seen ≡ axioms → x ≡ left → y ≡ right → has_pair axioms left right ≡ true → position (is_pair x y) seen ≡ None → ⊥
 pair_found axioms seen left right x y are lefts rights has none = search (rules, among_from_any, slot_at, first_is_some)
 

@@ -1,4 +1,4 @@
--- What an axiom more or fewer leaves of descriptions.
+-- What one more or one fewer axiom leaves of descriptions.
 use Rattle.lis_kept.proofs.Common.{rules, ◌≡◌, ◌⊎◌, ℕ, not, Bool, true, false, cond, List, refl, sym, ap, ◌∙◌, subst, inl, inr, IsStrictlySortedBy, and_parts, not_from_false, IsStrictlySortedBy-filter, Among, among_filter, among_insert_key, insert_key_old, insert_key_new, same_sets, sorted_insert_key, has_word, File, up, same_pair, with_axiom, pair_exact, same_word_decides, among_from_has_word, both_ways, false_from_ne_true, filter_among, pair_order, has_word_from_among}
 use Rattle.std.specs.List.{filter}
 use Rattle.lis_model.specs.Sets.{with_words}
@@ -6,13 +6,13 @@ use Rattle.lis_model.specs.State.{pair_cmp, own_words, file_words}
 use Rattle.lis_laws.proofs.Closures.{with_one_axiom}
 use Rattle.lis_laws.proofs.Members.{with_words_old}
 
--- ---- an axiom from a word that a file has not
+-- ---- an axiom from a word that a file does not have
 pub one_unfelt : (declared : List (List ℕ)) (axioms : List (List ℕ × List ℕ)) (pair : List ℕ × List ℕ) (file : File) → has_word (file_words declared axioms file) pair.0 ≡ false
     → file_words declared (with_axiom axioms pair) file ≡ file_words declared axioms file
 one_unfelt declared axioms pair file none = search (rules, with_one_axiom)
 
--- ---- an axiom that is taken away
--- it comes back
+-- ---- an axiom that is removed
+-- it is added again
 pub axiom_back : (axioms : List (List ℕ × List ℕ)) (pair : List ℕ × List ℕ) → IsStrictlySortedBy pair_cmp axioms → Among axioms pair → with_axiom (filter (λ e. not (same_pair e pair)) axioms) pair ≡ axioms
 axiom_back axioms pair sorted there =
     same_sets pair_cmp pair_order (with_axiom (filter (λ e. not (same_pair e pair)) axioms) pair) axioms
@@ -26,7 +26,7 @@ axiom_back axioms pair sorted there =
     from : (e : List ℕ × List ℕ) → Among axioms e → (b : Bool) → same_pair e pair ≡ b → Among (with_axiom (filter (λ e. not (same_pair e pair)) axioms) pair) e
     from e m b is = search (rules, and_parts, same_word_decides, insert_key_new, pair_exact, insert_key_old, filter_among, not_from_false)
 
--- a file that has not its left word keeps its description
+-- a file that does not have its left word keeps its description
 module _ (declared : List (List ℕ)) (axioms : List (List ℕ × List ℕ)) (pair : List ℕ × List ℕ) (file : File) (sorted : IsStrictlySortedBy pair_cmp axioms) (there : Among axioms pair) where
   abbrev less : List (List ℕ × List ℕ)
   less = filter (λ e. not (same_pair e pair)) axioms

@@ -1,4 +1,4 @@
--- An axiom that comes into a free slot, and one that leaves its slot.
+-- An axiom that is put into a free slot, and one that is removed from its slot.
 use Rattle.std.proofs.Common.{arith}
 use Rattle.lis_kept.proofs.Common.{rules, data_start, ◌≡◌, ◌⊎◌, ◌↔◌, refl, sym, ap, ap₂, ◌∙◌, subst, inl, inr, ℕ, ◌<◌, ◌≤◌, ◌==◌, ◌&&◌, ◌||◌, Bool, true, false, List, [], set, slice_get, Some, Result, Err, length, length-set, get_or-set_other, not, list_any, IsStrictlySortedBy, same_Some, Among, among_insert_key, insert_key_old, insert_key_new, same_sets, sorted_insert_key, word_of, Taxonomy, has_edge, with_edge, EdgeFault, Present, Cycle, Absent, has_word, is_plain_word, AxiomSlot, FreeAxiom, Pair, up, with_axiom, pair_exact, and_parts, eqb-true, not_from_false, not-true, IsStrictlySortedBy-filter, among_filter, without_edge, same_word, same_pair, same_word_decides, both_ways, and_from, false_from_ne_true, pair_order, has_word_from_among, filter_among, any_from_among}
 use Rattle.lis_graph.proofs.Sets.{sorted_nil, sorted_with_more}
@@ -50,7 +50,7 @@ module _ (p : Metadata) (sound : AreSound p) {slot : ℕ} {now : AxiomSlot} {axi
   abbrev pub after : Metadata
   after = record p { axioms = axioms; marks = marks }
 
-  -- what stands in each slot then
+  -- what is in each slot then
   pub cases_then : (at : ℕ) (a : AxiomSlot) → slice_get axioms at ≡ Some a → ((at ≡ slot) × (now ≡ a)) ⊎ ((at ≡ slot → ⊥) × (slice_get p.axioms at ≡ Some a))
   cases_then at a is = set_cases p.axioms slot one.was now one.there at a (ap (λ xs. slice_get xs at) (sym one.axioms_are) ∙ is)
 
@@ -139,7 +139,7 @@ module _ (few : Metadata) (sound : AreSound few) (marks : List Bool) {axioms : L
               let both : ◌≡◌ {A = AxiomSlot} FreeAxiom (Pair found.1 found.2) = same_Some FreeAxiom (Pair found.1 found.2) (sym is.free ∙ (ap (slice_get few.axioms) (sym same) ∙ found.3)) in
               cc
 
--- ---- the axiom comes, over what memory kept
+-- ---- the axiom is added, over what memory kept
 module _ (k p : Metadata) (t u : Taxonomy) (left right slot : ℕ) (axioms : List AxiomSlot) (marks : List Bool) (is : p ≡ k) (held : AreHeld p t) (may : MayLink left right p) (below : slot < p.limits.props)
     (free : slice_get p.axioms slot ≡ Some FreeAxiom) (filled : axioms ≡ set p.axioms slot (Pair left right)) (linked_is : u ≡ with_edge t left right)
     (marked : marks ≡ set p.marks (block_of p.limits Axioms slot) true) where
@@ -195,11 +195,11 @@ link_refused p t held left right may x y fault r is present cycle absent lefts r
         both_ways (has_word (up (declared_of p) (axioms_of p) may.to) may.from) may.no_circle (has_word_from_among (up (declared_of p) (axioms_of p) may.to) may.from back)
     by Absent said = absent said
 
--- ---- an axiom that leaves its slot
+-- ---- an axiom that is removed from its slot
 pub both_sides : (left right x y : ℕ) → are_both left right x y ≡ true → (left ≡ x) × (right ≡ y)
 both_sides left right x y is = let parts = and_parts (left == x) (right == y) is in (eqb-true left x parts.0, eqb-true right y parts.1)
 
--- a test of all that passes where one passed is a test without it
+-- if at most one of `b` and `f` holds, `f` is what is left of both without `b`
 without_one : (b f g : Bool) → g ≡ (b || f) → (b ≡ true → f ≡ false) → f ≡ (not b && g)
 without_one b f g h1 h2 = search (rules)
 

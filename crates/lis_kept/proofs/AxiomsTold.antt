@@ -1,4 +1,4 @@
--- The axioms that memory tells, by their slots.
+-- The axioms of memory, by their slots.
 use Rattle.std.proofs.Common.{arith, eq-eqb}
 use Rattle.lis_kept.proofs.Common.{rules, ◌≡◌, ◌⊎◌, ℕ, zero, suc, ◌+◌, ◌<◌, ◌≤◌, ◌==◌, ◌&&◌, Bool, true, false, cond, Some, List, [], ◌∷◌, ◌++◌, length, slice_get, count_by, IsSome, refl, sym, ap, ap₂, ◌∙◌, subst, inl, inr, Ordering, Less, Equal, Greater, match_ordering, insert_key, fold, list_any, eqb-true, same_Some, sum_by-cons, Among, among_right, among_from_any, among_flat_map, among_insert_key, Dict, word_of, AxiomSlot, FreeAxiom, Pair, same_word, same_pair, pair_exact, same_word_decides, both_ways, any_from_among, same_tests}
 use Rattle.lis_model.specs.State.{pair_cmp}
@@ -14,14 +14,14 @@ use Rattle.lis_kept.proofs.Known.{only_pair, one_number, axiom_among, among_axio
 
 -- ---- by words and by numbers
 module _ (k : Metadata) (sound : AreSound k) where
-  -- numbers are the same where their words are
+  -- numbers are the same exactly if their words are
   pub same_number : (x n : ℕ) (v w : List ℕ) → word_of k.dict x ≡ Some v → word_of k.dict n ≡ Some w → (x == n) ≡ same_word v w
   same_number x n v w is_v is_w =
       same_tests (x == n) (same_word v w)
       (λ e. (same_word_decides v w).1 (same_Some v w (sym is_v ∙ (ap (word_of k.dict) (eqb-true x n e) ∙ is_w))))
       (λ e. eq-eqb x n (one_number k sound x n w (is_v ∙ ap Some ((same_word_decides v w).0 e)) is_w))
 
-  -- a test of slots that tells the same of words as one of axioms
+  -- a test of slots that says the same of words as one of axioms
   pub by_axioms : (test : AxiomSlot → Bool) (told : List ℕ × List ℕ → Bool) → test FreeAxiom ≡ false
       → ((x y : ℕ) (l r : List ℕ) → word_of k.dict x ≡ Some l → word_of k.dict y ≡ Some r → test (Pair x y) ≡ told (l, r)) → list_any told (axioms_of k) ≡ list_any test k.axioms
   by_axioms test told none same =
@@ -67,7 +67,7 @@ one_more x y axioms = omega (arith, sum_by-cons (λ a. cond (is_filled a) 1 0) (
 no_more : (axioms : List AxiomSlot) → count (FreeAxiom ∷ axioms) ≡ count axioms
 no_more axioms = omega (arith, sum_by-cons (λ a. cond (is_filled a) 1 0) FreeAxiom axioms)
 
--- what axioms need so that each slot tells one of its own
+-- what axioms need so that each slot gives a different one
 record AreApart (d : Dict) (axioms : List AxiomSlot) : Type 0 where
   named : (x y : ℕ) → Among axioms (Pair x y) → IsSome (word_of d x) × IsSome (word_of d y)
   apart : (i j x y : ℕ) → slice_get axioms i ≡ Some (Pair x y) → slice_get axioms j ≡ Some (Pair x y) → i ≡ j
@@ -92,7 +92,7 @@ module _ (d : Dict) (one : (m n : ℕ) (w : List ℕ) → word_of d m ≡ Some w
           let tie = are.apart zero (suc at.0) x y refl (at.1 ∙ ap Some same) in
           omega (arith, tie)
 
-  -- nor is it one of those before, which none of the others is
+  -- nor is an axiom of the others that of the first slot, or one of those before
   no_other : (acc : List (List ℕ × List ℕ)) (x y : ℕ) (axioms : List AxiomSlot) → AreApart d (Pair x y ∷ axioms) → ((e : List ℕ × List ℕ) → Among (pairs_told d (Pair x y ∷ axioms)) e → Among acc e → ⊥)
       → (l : (w : List ℕ) × (word_of d x ≡ Some w)) (r : (w : List ℕ) × (word_of d y ≡ Some w)) (e : List ℕ × List ℕ) → Among (pairs_told d axioms) e → (◌≡◌ {A = List ℕ × List ℕ} (l.0, r.0) e) ⊎ Among acc e → ⊥
   no_other acc x y axioms are new l r e = search (rules, first_apart, among_right)
@@ -113,7 +113,7 @@ module _ (d : Dict) (one : (m n : ℕ) (w : List ℕ) → word_of d m ≡ Some w
       let sum : length (insert_key pair_cmp acc (l.0, r.0)) + count axioms ≡ length acc + count (Pair x y ∷ axioms) = omega (arith, grown, one_more x y axioms) in
       ap (λ es. length (fold (insert_key pair_cmp) acc es)) told ∙ (rest ∙ sum)
 
--- as many as slots that have one, where no two have the same
+-- as many as slots that have one, if no two have the same
 pub axioms_counted : (k : Metadata) → AreSound k → ((slot other left right : ℕ) → slice_get k.axioms slot ≡ Some (Pair left right) → slice_get k.axioms other ≡ Some (Pair left right) → slot ≡ other)
     → length (axioms_of k) ≡ count_by is_filled k.axioms
 axioms_counted k sound apart =
@@ -124,7 +124,7 @@ axioms_counted k sound apart =
     let all = counted k.dict (one_number k sound) [] k.axioms are (λ e m none. none) in
     omega (arith, all)
 
--- where fewer have one than there are numbers, a slot is free
+-- if fewer have one than there are numbers, a slot is free
 pub slot_free : (axioms : List AxiomSlot) (most : ℕ) → most ≤ length axioms → count_by is_filled axioms < most → (slot : ℕ) × (slot < most) × (slice_get axioms slot ≡ Some FreeAxiom)
 slot_free [] most within few = absurd (omega (arith, within, few))
 slot_free (a ∷ axioms) zero within few = absurd (omega (arith, few))

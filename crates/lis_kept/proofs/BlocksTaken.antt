@@ -1,4 +1,4 @@
--- Blocks that are taken for a content, or given back.
+-- Blocks that are taken for a content, or freed.
 use Rattle.std.proofs.Common.{MatchResult, arith}
 use Rattle.lis_kept.proofs.Common.{rules, ◌≡◌, refl, sym, ap, ◌∙◌, subst, ℕ, zero, suc, ◌<◌, ◌≤◌, nat_lt, not, Bool, true, false, List, [], ◌∷◌, length, drop, set, Result, Ok, Err, length-set, list_all, and_parts, ltb-true, lt-ltb, Held, are_distinct, slot_count, FileRecord, Taxonomy, bitmap_start, data_start, all_among, and_from, all_from}
 use Rattle.std.proofs.lemmas.Bool.{cond-true, cond-false, eq-eqb, ltb-false}
@@ -53,7 +53,7 @@ module _ (k p : Metadata) (t : Taxonomy) (taken marks : List Bool) (is : p ≡ k
   )
 
 -- ---- the numbers of a slot
--- numbers of which none stands twice stay so where some go at the front
+-- numbers of which none occurs twice stay so if the first ones are dropped
 distinct_behind : (ns : List ℕ) (k : ℕ) → are_distinct ns ≡ true → are_distinct (drop k ns) ≡ true
 distinct_behind ns zero apart = apart
 distinct_behind [] (suc k) apart = refl
@@ -165,7 +165,7 @@ module _ (p : Metadata) (t : Taxonomy) (held : AreHeld p t) (bytes numbers : Lis
   }
 
 -- ---- how a put ends
--- memory is as it must be, and what the answer says holds of it
+-- memory is as it must be, and what the result says holds of it
 pub record PutEnds {T : Type 0} (items : T → List ℕ) (bytes : List ℕ) (k q : Metadata) (t : Taxonomy) (old new : Held) (before after : Meaning) (put : Result T PutFault) : Type 0 where
   pub held : AreHeld q t
   pub ended : MatchResult put (λ numbers. Puts bytes (items numbers) k q old new before after) (λ fault. PutTorn k q old new before after)
@@ -174,7 +174,7 @@ pub record PutEnds {T : Type 0} (items : T → List ℕ) (bytes : List ℕ) (k q
 taken_counted : (version size : ℕ) → size ≤ file_limit version → blocks_taken version size ≡ blocks_taken 2 size
 taken_counted version size few = search (rules, cond-false, small_size)
 
--- what is asked of a put
+-- what a put requires
 pub record MayPut (k : Metadata) (bytes : List ℕ) (old : Held) : Type 0 where
   pub short : length bytes ≤ file_limit k.limits.version
   pub enough : blocks_taken k.limits.version (length bytes) ≤ free_count k.taken
@@ -237,14 +237,14 @@ module _ {T : Type 0} (items : T → List ℕ) (k p : Metadata) (t : Taxonomy) (
     staged_ends (Err NoSpace) refused = absurd (omega (arith, refused.2, content_enough))
     staged_ends (Err Disk) never = absurd never
 
--- what is said of an answer, said of its value
+-- what is stated of a result, stated of its value
 pub ended_ok : {T : Type 0} (P : T → Type 0) (Q : PutFault → Type 0) (put : Result T PutFault) (x : T) → put ≡ Ok x → MatchResult put P Q → P x
 ended_ok P Q put x is ended = subst (λ r. MatchResult r P Q) is ended
 
 pub ended_err : {T : Type 0} (P : T → Type 0) (Q : PutFault → Type 0) (put : Result T PutFault) (fault : PutFault) → put ≡ Err fault → MatchResult put P Q → Q fault
 ended_err P Q put fault is ended = subst (λ r. MatchResult r P Q) is ended
 
--- ---- blocks that are given back
+-- ---- blocks that are freed
 -- the homes of the blocks that a slot numbers are blocks of the image
 pub slot_within : (k : Metadata) (rec : FileRecord) (base blocks : ℕ) (numbers : List ℕ) → is_sound_record k.limits.version k.dict k.limits.blocks rec ≡ true → base ≡ data_start k.limits
     → blocks ≡ image_blocks k.limits → numbers ≡ rec.blocks → are_within base blocks numbers ≡ true

@@ -1,4 +1,4 @@
--- The bytes and the blocks of a file, and where other blocks change.
+-- The bytes and the blocks of a file, and what stays when other blocks change.
 use Rattle.lis_kept.proofs.Common.{rules, ◌≡◌, ℕ, ◌+◌, ◌≤◌, true, List, length, eqb-true, Among, among_from_any, among_right, slot_count, Dict, FileRecord, slot_blocks, Limits, data_start}
 use Rattle.std.proofs.lemmas.Bool.{cond-false}
 use Rattle.lis_content.proofs.Indexes.{large_blocks, small_blocks, small_size}
@@ -10,15 +10,15 @@ use Rattle.lis_kept.specs.Telling.{bytes_told, blocks_told, HasIndex}
 use Rattle.lis_kept.proofs.Dropped.{record_in_form}
 
 -- ---- how many numbers a slot has
--- as many in each version as the size asks for
+-- as many in each version as the size requires
 pub slot_blocks_counted : (version size : ℕ) → size ≤ file_limit version → slot_blocks version size ≡ slot_count size
 slot_blocks_counted version size few = search (rules, cond-false, small_size)
 
 pub slot_counted : (version : ℕ) (dict : Dict) (blocks : ℕ) (rec : FileRecord) → is_sound_record version dict blocks rec ≡ true → length rec.blocks ≡ slot_count rec.size
 slot_counted version dict blocks rec sound = search (rules, record_in_form, few_blocks, slot_blocks_counted)
 
--- ---- a file where other blocks change
--- A file stays where its blocks hold the same. Its index block is among them.
+-- ---- a file when other blocks change
+-- A file stays if its blocks hold the same. Its index block is among them.
 pub same_file : (limits : Limits) (rec : FileRecord) (at there : ℕ → List ℕ) → length rec.blocks ≡ slot_count rec.size
     → ((b : ℕ) → Among (blocks_told limits at rec) b → there (data_start limits + b) ≡ at (data_start limits + b))
     → (bytes_told limits there rec ≡ bytes_told limits at rec) × (blocks_told limits there rec ≡ blocks_told limits at rec) × (HasIndex limits at rec → HasIndex limits there rec)

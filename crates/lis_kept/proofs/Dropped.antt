@@ -1,4 +1,4 @@
--- A file that goes.
+-- A file that is removed.
 use Rattle.std.proofs.Common.{arith}
 use Rattle.lis_kept.proofs.Common.{rules, ◌≡◌, ◌⊎◌, inl, inr, Option, refl, sym, ap, ◌∙◌, subst, ℕ, ◌<◌, ◌==◌, if◌then◌else◌, ◌&&◌, not, Bool, true, List, length, set, Some, None, is_some, IsSome, length-set, cases_eq, eqb-true, ne_eqb, and_parts, same_Some, Among, are_distinct, Catalog, Filed, IsCatalog, rec_at, slot_of, without_slot, FileRecord, slot_blocks, Dict, word_of, Taxonomy, same_word, same_word_decides, has, both_ways, same_tests}
 use Rattle.std.proofs.lemmas.Bool.{eq-eqb}
@@ -24,7 +24,7 @@ pub record_in_form : (version : ℕ) (dict : Dict) (blocks : ℕ) (rec : FileRec
 record_in_form version dict blocks rec sound =
     record_tests version rec (record_parts version dict blocks rec sound).0
 
--- the blocks of a file are different ones
+-- the blocks of a file are distinct
 pub blocks_apart : (k : Metadata) → AreSound k → (slot : ℕ) (rec : FileRecord) → rec_at k.catalog slot ≡ Some rec → are_distinct rec.blocks ≡ true
 blocks_apart k sound slot rec there =
     let form = record_in_form k.limits.version k.dict k.limits.blocks rec (sound.records slot rec there) in
@@ -77,7 +77,7 @@ module _ (p : Metadata) (t : Taxonomy) (held : AreHeld p t) {slot : ℕ} {c : Ca
       block_marked p refiled (block_of p.limits Files slot) refl one.marked
       (omega (arith, (among_slots p.limits held.sound.range Files slot one.below).1, held.sound.marks)) spelled_before
 
--- ---- a file that goes, over what memory kept
+-- ---- a file that is removed, over what memory kept
 module _ (k p : Metadata) (t : Taxonomy) (slot : ℕ) (rec : FileRecord) (c : Catalog) (marks : List Bool) (is : p ≡ k) (held : AreHeld p t) (there : rec_at p.catalog slot ≡ Some rec)
     (gone : c ≡ without_slot p.catalog slot) (marked : marks ≡ set p.marks (block_of p.limits Files slot) true) where
   abbrev left : Metadata

@@ -1,4 +1,4 @@
--- The edges tell the links: each link between tests is a chain of edges from one to the next.
+-- The edges give the links: each link between tests is a chain of edges from one to the next.
 use Rattle.std.proofs.Common.{arith}
 use Rattle.std.proofs.lemmas.Bool.{cases_Bool}
 use Rattle.lis_kept.proofs.Common.{rules, ◌≡◌, ◌⊎◌, inl, inr, sym, ◌∙◌, ℕ, zero, suc, ◌<◌, ◌+◌, ◌||◌, true, false, Option, IsDict, or_cases, or_left, or_right, Taxonomy, has_edge, word_of}
@@ -30,8 +30,7 @@ module _ (k : Metadata) (dict : IsDict k.dict) (t : Taxonomy) (has : HasEdges k 
   pair_edge : (p q : ℕ) → has_pair k.axioms p q ≡ true → has_edge t p q ≡ true
   pair_edge p q h = has.edges p q ∙ or_right (is_head_by (word_of k.dict p) (word_of k.dict q) || is_next_test k.dict k.declared p q) (has_pair k.axioms p q) h
 
-  -- a test leads to each that is weaker: both are less far from one between them
-  -- by what leads to what is nearer
+  -- a test leads to each weaker one, since nearer tests lead to each other: both are nearer to one between them
   step : (most p q : ℕ) → ((x y : ℕ) → apart_by (test x) (test y) < most → is_test_link k.dict k.declared x y ≡ true → Leads t x y) → apart_by (test p) (test q) < suc most
       → is_test_link k.dict k.declared p q ≡ true → (is_between k.dict k.declared p q ≡ true) ⊎ (is_between k.dict k.declared p q ≡ false) → Leads t p q
   step most p q nearer_leads far link (inl some) =

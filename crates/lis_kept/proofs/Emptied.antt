@@ -1,4 +1,4 @@
--- The numbers of a file that is gone: of their words those may go that are not in use.
+-- The numbers of a file that was removed: those of their words that are not in use may be forgotten.
 use Rattle.lis_kept.proofs.Common.{rules, ◌≡◌, ap, ◌∙◌, ℕ, ◌<◌, true, false, List, [], length, set, get_or, Some, word_of, Ext, has, is_valued, declarable_not_valued, both_ways}
 use Rattle.lis_blockmap.specs.Bitmap.{is_taken}
 use Rattle.lis_kept.specs.Metadata.{Metadata}

@@ -110,7 +110,7 @@ module _ (k : Metadata) (sound : AreSound k) where
         let rest = chain_named len c.0 m link.0 link.1 c.2 in
         (rest.0, rest.1, (link.0, link.2, rest.2))
 
-    -- a number leads to a number where the word of the one entails the word of the other
+    -- a number leads to a number if the word of the one entails the word of the other
     pub leads_from_up : (n m : ℕ) (p q : List ℕ) → word_of k.dict n ≡ Some p → word_of k.dict m ≡ Some q → Among (up (declared_of k) (axioms_of k) p) q → Leads t n m
     leads_from_up n m p q is_p is_q h =
         let chain = entails_from_up (declared_of k) (axioms_of k) p q h in
@@ -123,7 +123,7 @@ module _ (k : Metadata) (sound : AreSound k) where
         let same : named.0 ≡ q = same_Some named.0 q (sym named.1 ∙ is_q) in
         subst (λ w. Among (up (declared_of k) (axioms_of k) p) w) same (up_from_entails (declared_of k) (axioms_of k) p named.0 (leads.0, named.2))
 
-    -- what the tests of numbers and of words answer
+    -- the tests of numbers and of words give the same
     pub leads_told : (n m : ℕ) (p q : List ℕ) → word_of k.dict n ≡ Some p → word_of k.dict m ≡ Some q → leads t n m ≡ has_word (up (declared_of k) (axioms_of k) p) q
     leads_told n m p q is_p is_q =
         same_tests (leads t n m) (has_word (up (declared_of k) (axioms_of k) p) q)

@@ -1,4 +1,4 @@
--- The edges are few: each word has at most one edge of its own, to its head or to the next weaker test, and each axiom has one.
+-- The edges are few: each word has at most one own edge, to its head or to the next weaker test, and each axiom has one.
 use Rattle.std.proofs.Common.{arith, filter, length-append}
 use Rattle.lis_kept.proofs.Common.{rules, ◌≡◌, ◌⊎◌, inl, inr, refl, sym, ap, ◌∙◌, subst, ℕ, zero, suc, ◌+◌, ◌-◌, ◌*◌, ◌<◌, ◌≤◌, ◌==◌, ◌&&◌, ◌||◌, not, cond, Bool, true, false, Option, Some, None, is_some, List, [], ◌∷◌, ◌++◌, length, map, count_by, Among, among_filter, filter_among, map_among, among_right, or_cases, and_parts, and_from, both_ways, not-true, false_from_ne_true, same_Some, length-map, Dict, IsDict, word_of, number_of, number_from_word, AxiomSlot, FreeAxiom, Pair, Taxonomy, has_edge, without_edge, same_word, same_word_decides, is_valued, head_bytes, is_test, slice_get, sum_by-cons}
 use Rattle.std.proofs.lemmas.Bool.{cases_Bool, eq-eqb}
@@ -23,7 +23,7 @@ use Rattle.lis_laws.proofs.Chains.{tests_by}
 use Rattle.lis_kept.proofs.InArea.{some_properties}
 use Rattle.lis_kept.proofs.Used.{headed}
 
--- ---- edges that are all in a list are no more than it has
+-- ---- if all edges are in a list, there are no more of them than the list has
 -- what is in the list without its first one
 others_listed : (e : ℕ × ℕ) (edges : List (ℕ × ℕ)) (t : Taxonomy) → ((p q : ℕ) → has_edge t p q ≡ true → Among (e ∷ edges) (p, q)) → (p q : ℕ) → has_edge (without_edge t e.0 e.1) p q ≡ true → Among edges (p, q)
 others_listed e edges t all p q h = by both.0 (all p q both.1)
@@ -48,7 +48,7 @@ listed : (edges : List (ℕ × ℕ)) (t : Taxonomy) → ((p q : ℕ) → has_edg
 listed [] t all = omega (arith, no_edges t (λ p q. false_from_ne_true (has_edge t p q) (λ h. all p q h)))
 listed (e ∷ edges) t all = one_fewer e t (length edges) (listed edges (without_edge t e.0 e.1) (others_listed e edges t all)) (cases_Bool (set.contains t.edges e))
 
--- ---- the edge that a number has of its own
+-- ---- the own edge of a number
 abbrev first_or_none : List ℕ → ℕ
 first_or_none [] = 0
 first_or_none (n ∷ ns) = n
@@ -89,7 +89,7 @@ module _ (d : Dict) (kept : IsDict d) (bits : List Bool) where
           cases (inr (inl to)) = absurd (left.none y right.linked to)
           cases (inr (inr from)) = absurd (right.none x left.linked from)
 
-  -- and no head
+  -- and a test with a next weaker one has no head
   no_head_and_next : (p x y : ℕ) → is_head_by (word_of d p) (word_of d x) ≡ true → is_next_test d bits p y ≡ true → ⊥
   no_head_and_next p x y h g =
       let valued = headed (word_of d p) (word_of d x) h in

@@ -1,4 +1,4 @@
--- A record that comes into a free slot.
+-- A record that is put into a free slot.
 use Rattle.std.proofs.Common.{eqb, arith}
 use Rattle.lis_kept.proofs.Common.{rules, ◌≡◌, refl, sym, ap, ◌∙◌, subst, inl, ℕ, ◌<◌, ◌==◌, if◌then◌else◌, not, Bool, true, false, List, [], ◌∷◌, length, set, Some, None, IsSome, and_parts, ne_eqb, eqb-true, ltb-true, length-map, same_Some, Among, among_from_any, are_distinct, Catalog, Filed, IsCatalog, rec_at, slot_of, Dict, word_of, has, FileRecord, Taxonomy, File, all_among, and_from, both_ways}
 use Rattle.std.specs.List.{AllByRecursion, IsDistinct}
@@ -24,7 +24,7 @@ use Rattle.lis_model.specs.Sets.{has_number}
 pub record_named : (version : ℕ) (dict : Dict) (blocks : ℕ) (rec : FileRecord) → is_sound_record version dict blocks rec ≡ true → is_file_name rec.name ≡ true
 record_named version dict blocks rec sound = (record_in_form version dict blocks rec sound).name
 
--- ---- a slot is free where there are fewer files than slots
+-- ---- a slot is free if there are fewer files than slots
 unlike_all : (n : ℕ) (ns : List ℕ) → has_number ns n ≡ false → AllByRecursion (λ m. eqb n m ≡ false) ns
 unlike_all n [] none = tt
 unlike_all n (m ∷ ns) none =
@@ -51,7 +51,7 @@ room_for_file c is slot rec absent below free =
     lower q h1 = search (rules, ltb-true, all_among)
 
 -- ---- the record in its slot
--- what a record needs that comes into a free slot
+-- what a record needs that is put into a free slot
 pub record MayFile (p : Metadata) (slot : ℕ) (rec : FileRecord) : Type 0 where
   pub below : slot < p.limits.files
   pub free : rec_at p.catalog slot ≡ None

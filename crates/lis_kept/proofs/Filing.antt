@@ -1,4 +1,4 @@
--- Lists of files in the order of their names, and catalogs with a file more or fewer.
+-- Lists of files in the order of their names, and catalogs with one more or one fewer file.
 pub use Rattle.lis_laws.proofs.Routes.{find_among}
 use Rattle.std.proofs.Common.{filter, option_map, arith}
 use Rattle.lis_kept.proofs.Common.{common_steps, rules, ◌≡◌, ◌⊎◌, refl, sym, ap, ap₂, ◌∙◌, subst, inl, inr, ℕ, ◌+◌, ◌<◌, ◌≤◌, nat_lt, ◌==◌, not, Bool, true, false, cond, List, [], ◌∷◌, length, map, Option, Some, None, Ordering, Less, Equal, Greater, match_ordering, insert_key, find, list_all, list_any, and_parts, eqb-true, lt-ltb, not-true, Among, among_filter, among_from_any, among_insert_key, among_map, are_distinct, FileRecord, Catalog, Filed, IsCatalog, slot_of, rec_at, without_slot, word_cmp, word_order, all_among, filter_le, and_from, both_ways, false_from_ne_true, any_from_among, map_among, all_from}
@@ -23,7 +23,7 @@ number_from_among ns n m = any_from_among (λ k. k == n) ns n m (eq-eqb n n refl
 pub found_has : {X Y : Type 0} (v : X → Y) (y : Y) (o : Option X) → option_map v o ≡ Some y → (x : X) × (o ≡ Some x) × (v x ≡ y)
 found_has v y o is = search (rules)
 
--- ---- numbers of which none stands twice
+-- ---- numbers of which none occurs twice
 -- a member is found by its number
 pub found_apart : {X : Type 0} (number : X → ℕ) (xs : List X) (x : X) → are_distinct (map number xs) ≡ true → Among xs x → find (λ y. number y == number x) xs ≡ Some x
 found_apart number [] x apart m = absurd m
@@ -51,7 +51,7 @@ pub map_all : {X Y : Type 0} (f g : X → Y) (xs : List X) → ((x : X) → Amon
 map_all f g [] same = refl
 map_all f g (x ∷ xs) same = ap₂ (λ y ys. y ∷ ys) (same x (inl refl)) (map_all f g xs (λ z m. same z (inr m)))
 
--- a map that keeps the order puts the image of a key to its place
+-- a map that keeps the order inserts the image of a key at its index
 pub map_insert_key : {A B : Type 0} (f : A → B) (cmp : A → A → Ordering) (other : B → B → Ordering) → ((x y : A) → cmp x y ≡ other (f x) (f y)) → (xs : List A) (k : A) → map f (insert_key cmp xs k) ≡ insert_key other (map f xs) (f k)
 map_insert_key f cmp other same [] k = refl
 map_insert_key f cmp other same (x ∷ xs) k = grind (arith, common_steps, map_insert_key f cmp other same xs k)
@@ -71,7 +71,7 @@ module _ (c : Catalog) (is : IsCatalog c) where
       subst (λ (r : FileRecord). Among c.entries (record { slot = slot; rec = r })) found.2
       (subst (λ n. Among c.entries (record { slot = n; rec = (found.0).rec })) (eqb-true (found.0).slot slot m.1) m.0)
 
--- ---- one file fewer
+-- ---- one fewer file
 module _ {X K : Type 0} (v : X → K) (keep : X → Bool) where
   pub all_kept : (test : K → Bool) (xs : List X) → list_all test (map v xs) ≡ true → list_all test (map v (filter keep xs)) ≡ true
   all_kept test xs h =
@@ -89,8 +89,8 @@ slot_in f = f.slot
 pub catalog_without : (c : Catalog) (slot : ℕ) → IsCatalog c → IsCatalog (without_slot c slot)
 catalog_without c slot is = search (rules, rising_kept, all_kept, apart_filter, filter_le)
 
--- ---- numbers of which none stands twice
--- slots are different ones with one more, that no file has
+-- ---- numbers of which none occurs twice
+-- slots are distinct with one more that no file has
 apart_more : (f : Filed) (es : List Filed) → are_distinct (map slot_in es) ≡ true → list_any (λ (g : Filed). g.slot == f.slot) es ≡ false
     → are_distinct (map slot_in (insert_key filed_cmp es f)) ≡ true
 apart_more f [] apart none = refl

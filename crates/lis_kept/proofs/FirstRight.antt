@@ -1,4 +1,4 @@
--- Of the words right of a number in axiom slots, the first behind another.
+-- Of the right words of axioms whose left word has a number, the first after another word.
 use Rattle.std.proofs.Common.{option_to_list, filter}
 use Rattle.lis_kept.proofs.Common.{common_steps, rules, ◌≡◌, ℕ, ◌+◌, ◌<◌, ◌==◌, ◌&&◌, Bool, true, false, cond, if◌then◌else◌, Option, ◌⊎◌, subst, Some, None, List, [], ◌∷◌, ◌++◌, length, get_or, map, take, refl, sym, ap, ap₂, ◌∙◌, inl, inr, insert_key, find, flat_map, fold, IsStrictlySortedBy, match_ordering, Ordering, Less, Equal, Greater, eqb-true, take_more, same_Some, Among, among_filter, among_map, among_flat_map, flat_map_among, sorted_insert_key, Dict, number_of, word_of, number_from_word, AxiomSlot, FreeAxiom, Pair, word_cmp, same_word, pair_exact, word_order, same_word_decides, false_from_ne_true, filter_among, map_among, pair_order, same_words}
 use native.Mathlib.Omega.{arith}
@@ -23,7 +23,7 @@ use Rattle.lis_kept.specs.Sound.{AreSound}
 use Rattle.lis_kept.specs.Telling.{pair_by, pair_told, pairs_told, axioms_of}
 use Rattle.lis_kept.proofs.Known.{only_word, only_pair, among_axiom}
 
--- ---- the first of a sorted set that passes a test, when one is put in
+-- ---- the first of a sorted set that passes a test, when a key is inserted
 module _ {K : Type 0} (cmp : K → K → Ordering) (order : IsTotalOrder cmp) (exact : CmpEqualImpliesEq cmp) (test : K → Bool) where
   abbrev sooner : Option K → K → Option K
   sooner None k = Some k
@@ -66,7 +66,7 @@ abbrev pub taken : Option (List ℕ) → Option (List ℕ) → Option (List ℕ)
 taken last first None = first
 taken last first (Some word) = cond (is_behind last word && is_before word first) (Some word) first
 
--- a word that is taken is the first where it is put in
+-- a word that is taken is the first of the set with that word
 put_taken : (last first : Option (List ℕ)) (word : List ℕ) → put word_cmp word_order word_exact (is_behind last) first word ≡ taken last first (Some word)
 put_taken last first word = search (rules, and-true)
 
@@ -95,7 +95,7 @@ module _ (d : Dict) (short : IsShort d) (number : ℕ) (left : List ℕ) (named 
   abbrev right_in : AxiomSlot → List (List ℕ)
   right_in slot = option_to_list (right_by d number slot)
 
-  -- the words right of the number
+  -- the right words of axioms whose left word has the number
   rights_told : (slots : List AxiomSlot) → rights_of (axioms_in slots) left ≡ set_of (flat_map right_in slots)
   rights_told slots =
       same_words (rights_of (axioms_in slots) left) (set_of (flat_map right_in slots))
@@ -136,7 +136,7 @@ module _ (d : Dict) (short : IsShort d) (number : ℕ) (left : List ℕ) (named 
                   (with_more_new pair_cmp pair_exact [] (pairs_told d slots) (left, w) (flat_map_among (pair_told d) slots (Pair x y) (left, w) there told)) ((same_word_decides left left).1 refl))
               by false e none = absurd cc
 
-  -- one slot more
+  -- one more slot
   slot_taken : (last : Option (List ℕ)) (slots : List AxiomSlot) (slot : AxiomSlot)
       → find (is_behind last) (rights_of (axioms_in (slots ++ slot ∷ [])) left) ≡ taken last (find (is_behind last) (rights_of (axioms_in slots) left)) (right_by d number slot)
   slot_taken last slots slot =

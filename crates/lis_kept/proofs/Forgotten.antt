@@ -1,4 +1,4 @@
--- Words of given numbers that nothing uses, but a slot: valued words go first, then the others.
+-- Words of given numbers that nothing uses except a slot: valued words are forgotten first, then the others.
 use Rattle.std.proofs.Common.{arith}
 use Rattle.lis_kept.proofs.Common.{rules, ◌≡◌, refl, sym, ap, ap₂, ◌∙◌, ℕ, ◌+◌, ◌<◌, ◌≤◌, ◌==◌, if◌then◌else◌, ◌&&◌, ◌||◌, not, cond, Bool, true, false, List, [], ◌∷◌, length, take, get_or, Option, Some, None, is_some, IsSome, IfSome, slice_get, count_by, and_parts, eqb-true, not-true, sum_by-cons, word_of, rec_at, has, FileRecord, Pair, same_word_decides, head_not_valued, and_from, both_ways, false_from_ne_true, neither}
 use Rattle.std.proofs.lemmas.Bool.{true_from_ne_false}
@@ -28,7 +28,7 @@ in_either h v u l gone stays = grind arith
 is_first : (x n : ℕ) (x_is : x ≡ n) (P : ℕ → Bool) → P x ≡ true → P n ≡ true
 is_first x n x_is P is = ap P (sym x_is) ∙ is
 
--- ---- what is left after words went
+-- ---- what is left after words were forgotten
 module _ {test : ℕ → Bool} {most : ℕ} {p q : Metadata} (went : ForgetsWhere test most p q) where
   left_alone : (n : ℕ) → test n ≡ false → word_of q.dict n ≡ word_of p.dict n
   left_alone n e = went.words n ∙ ap (λ t. if t then None else word_of p.dict n) e
@@ -57,12 +57,12 @@ due_parts but k valued n is = search (rules, and_parts, not-true, both_ways)
 pub due_before : (test : ℕ → Bool) (most : ℕ) (p q : Metadata) → ForgetsWhere test most p q → (but : Option ℕ) (valued : Bool) (n : ℕ) → is_due but q valued n ≡ true → is_due but p valued n ≡ true
 due_before test most p q went but valued n is = sym (same_due went but valued n (due_parts but q valued n is).2) ∙ is
 
--- ---- what nothing uses but a slot without a file
+-- ---- what nothing uses except a slot without a file
 -- the slot has none
 abbrev pub HasNoFile : Option ℕ → Metadata → Type 0
 HasNoFile but k = IfSome but (λ slot. rec_at k.catalog slot ≡ None)
 
--- all that is asked of a number that may go, but that no word has its word as head
+-- all that is required of a number whose word may be forgotten, except that no word has that word as its head
 record IsLone (k : Metadata) (n : ℕ) : Type 0 where
   pub flagged : is_taken k.declared n ≡ false
   pub had : (slot : ℕ) → IsSome (rec_at k.catalog slot) → has k.ext n slot ≡ false
@@ -76,11 +76,11 @@ may_go k n lone heads = record { flagged = lone.flagged; had = lone.had; lefts =
 lone_from : (but : Option ℕ) (numbers : List ℕ) (k : Metadata) (n : ℕ) → HasNoFile but k → MayForget numbers (beside but k) → is_used (beside but k) n ≡ false → IsLone k n
 lone_from but numbers k n empty may unused = search (rules, false_from_ne_true, both_ways, is_first, neither, had_from, elsewhere_had)
 
--- it stays so once others went
+-- it stays so when others are forgotten
 lone_still : {test : ℕ → Bool} {most : ℕ} {p q : Metadata} → ForgetsWhere test most p q → (n : ℕ) → is_some (word_of q.dict n) ≡ true → IsLone p n → IsLone q n
 lone_still {q = q} went n some lone = search (rules)
 
--- what may go may still go once others went
+-- what may be forgotten still may when others are
 pub may_still : (test : ℕ → Bool) (most : ℕ) (p q : Metadata) → ForgetsWhere test most p q → (but : Option ℕ) (valued : Bool) (n : ℕ) → is_due but q valued n ≡ true → MayGo n p → MayGo n q
 may_still test most p q went but valued n is go = search (rules, may_go, lone_still, due_parts, none_left, left_alone, same_word_then)
 
@@ -88,7 +88,7 @@ may_still test most p q went but valued n is go = search (rules, may_go, lone_st
 both : {f g : ℕ → Bool} {a b : ℕ} {p q r : Metadata} → ForgetsWhere f a p q → ForgetsWhere g b q r → ForgetsWhere (λ n. f n || g n) (a + b) p r
 both {f = f} {g = g} {p = p} {r = r} first second = search (rules, same_word_then)
 
--- another test, that answers the same at each known word
+-- another test, that gives the same for each known word
 retest : {f : ℕ → Bool} {a : ℕ} {p q : Metadata} (g : ℕ → Bool) (b : ℕ) → ForgetsWhere f a p q → ((n : ℕ) → is_some (word_of p.dict n) ≡ true → f n ≡ g n) → a ≤ b → ForgetsWhere g b p q
 retest {f = f} {p = p} g b went same le = search (rules)
 
@@ -122,7 +122,7 @@ module _ (but : Option ℕ) (valued : Bool) (numbers : List ℕ) (i : ℕ) (p q 
       as_many true e = omega (arith, count_by_more_yes due numbers i 0 lt e)
       as_many false e = omega (arith, count_by_more_no due numbers i 0 lt e)
 
-      -- the next number is not due any more, as its word went before
+      -- the next number is not due any more, since its word was forgotten before
       were : (n : ℕ) → is_some (word_of p.dict n) ≡ true → number ≡ n → due n ≡ true → has_number (take i numbers) n ≡ true
       were n some e is_due_n =
           true_from_ne_false (has_number (take i numbers) n) (λ none.
@@ -134,7 +134,7 @@ module _ (but : Option ℕ) (valued : Bool) (numbers : List ℕ) (i : ℕ) (p q 
 head_by_parts : (o w : Option (List ℕ)) → is_head_by o w ≡ true → (is_some o ≡ true) × (is_of_pass true o ≡ true) × (is_of_pass true w ≡ false)
 head_by_parts o w said = search (rules, both_ways, and_parts, same_word_decides, head_not_valued)
 
--- what is known goes in one pass
+-- a known word is in exactly one of the passes
 of_other_pass : (o : Option (List ℕ)) → is_some o ≡ true → is_of_pass false o ≡ not (is_of_pass true o)
 of_other_pass o some = search (rules, both_ways)
 
@@ -196,11 +196,11 @@ module _ (but : Option ℕ) (numbers : List ℕ) (p q : Metadata) (went : Forget
       (λ is. same_due went but false n (ap is_some (left_alone went n is) ∙ some) ∙ ap (λ b. b && not (is_used (beside but p) n)) (of_other_pass (word_of p.dict n) some)))
       (counts_apart numbers)
 
--- where no slot is given
+-- if no slot is given
 pub forgets_where : (numbers : List ℕ) (p q : Metadata) → ForgetsWhere (λ n. has_number numbers n && not (is_used (beside None p) n)) (length numbers) p q → Forgets numbers p q
 forgets_where numbers p q went = search (rules, used_then)
 
--- and where one is
+-- and if one is
 pub forgets_beside : (slot : ℕ) (numbers : List ℕ) (p q : Metadata) → ForgetsWhere (λ n. has_number numbers n && not (is_used (beside (Some slot) p) n)) (length numbers) p q
     → ForgetsWithout slot numbers p q
 forgets_beside slot numbers p q went = search (rules, used_then)

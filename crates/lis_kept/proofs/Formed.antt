@@ -68,7 +68,7 @@ module _ (k : Metadata) (sound : AreSound k) where
       by None is = refl
       by (Some rec) is = (record_parts k.limits.version k.dict k.limits.blocks rec (sound.records n rec is)).0
 
-  -- where free slots are empty, each number of any slot has a word
+  -- if free slots are empty, each number of any slot has a word
   pub named_all : FreeSlotsAreEmpty k → (n slot : ℕ) → has k.ext n slot ≡ true → IsSome (word_of k.dict n)
   named_all free n slot has_it = by (rec_at k.catalog slot) refl
     where
@@ -81,7 +81,7 @@ pub named_in : (k p : Metadata) → p ≡ k → AreSound p → (n : ℕ) → IsS
 named_in k p is sound n some = named_below p sound n (ap (λ (x : Metadata). is_some (word_of x.dict n)) is ∙ some)
 
 -- ---- rows
--- what rows tell of each set: its numbers are below the limit
+-- what rows say of each set: its numbers are below the limit
 abbrev pub AreWithin : Ext → Type 0
 AreWithin e = (slot : ℕ) → slot < length e.sets → All (λ p. p < e.props) (set_of e slot)
 
@@ -96,8 +96,8 @@ had_within e within n slot has_it = by (cases_lt slot (length e.sets))
 pub none_past : (e : Ext) → AreWithin e → (n slot : ℕ) → e.props ≤ n → has e n slot ≡ false
 none_past e within n slot past = false_from_ne_true (has e n slot) (λ has_it. let below = had_within e within n slot has_it in omega (arith, below, past))
 
--- ---- metadata of which words, axioms and the like stay
--- files, blocks, numbers and marks that may stand beside words and axioms
+-- ---- metadata whose words, axioms and the like stay
+-- files, blocks, numbers and marks that may go with the same words and axioms
 pub record FilesHold (p : Metadata) (catalog : Catalog) (taken : List Bool) (ext : Ext) (marks : List Bool) : Type 0 where
   pub slots : catalog.files ≡ p.catalog.files
   pub catalog_is : IsCatalog catalog

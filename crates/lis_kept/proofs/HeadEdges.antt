@@ -1,4 +1,4 @@
--- An edge more of a taxonomy.
+-- One more edge of a taxonomy.
 use Rattle.std.proofs.Common.{eq-eqb}
 use Rattle.lis_kept.proofs.Common.{rules, ◌≡◌, ◌⊎◌, ℕ, zero, suc, ◌==◌, ◌&&◌, ◌||◌, true, false, not, Option, [], ◌↔◌, Result, Err, IsTrue, refl, ap, ap₂, ◌∙◌, subst, inl, inr, Ordering, Contains, ne_eqb, Chain, among_from_contains, EdgeFault, Present, Cycle, Absent, Taxonomy, no_links, has_edge, with_edge, without_edge, both_ways, any_from_among}
 use Rattle.std.specs.Ordering.{nat_cmp, ordering_then, is_eq, eq_by_cmp}
@@ -56,7 +56,7 @@ not_refused t n h x y Cycle r is present cycle absent left right to from apart =
     apart (none_entails t n to h chain)
 not_refused t n h x y Absent r is present cycle absent left right to from apart = absent is
 
--- ---- an edge fewer
+-- ---- one fewer edge
 pub has_edge-without_edge : (t : Taxonomy) (n h x y : ℕ) → has_edge (without_edge t n h) x y ≡ (not ((x == n) && (y == h)) && has_edge t x y)
 has_edge-without_edge t n h x y = set.contains-remove pair_order t.edges (n, h) (x, y) ∙ ap (λ b. not b && has_edge t x y) (same_edge x y n h)
 
@@ -78,7 +78,7 @@ other_edges_without t n o x y differ = search (rules, has_edge-without_edge, ne_
 pub first_edge : (t : Taxonomy) (n : ℕ) (o : Option ℕ) (y : ℕ) → has_edge t n y ≡ false → has_edge (with_edge_to t n o) n y ≡ is_at o y
 first_edge t n o y none = search (rules, has_edge-with_edge, eq-eqb, or-false, swapped)
 
--- and one that had this one alone has none without it
+-- and one that had only this one has none without it
 pub last_edge : (t : Taxonomy) (n : ℕ) (o : Option ℕ) (y : ℕ) → has_edge t n y ≡ is_at o y → has_edge (without_edge_to t n o) n y ≡ false
 last_edge t n o y only = search (rules, has_edge-without_edge, eq-eqb, swapped)
 

@@ -1,4 +1,4 @@
--- In which blocks an area lies, and its slots in a block.
+-- In which blocks an area is, and its slots in a block.
 use Rattle.std.proofs.Common.{arith}
 use Rattle.lis_kept.proofs.Common.{rules, ◌≡◌, ℕ, ◌+◌, ◌*◌, ◌-◌, ◌/◌, ◌%◌, ◌<◌, ◌≤◌, ◌==◌, ◌||◌, Bool, true, List, IsTrue, sym, subst, inl, inr, and_parts, or_cases, eqb-true, Limits, are_in_range, bitmap_start, data_start}
 use Rattle.std.proofs.Math.Nat.{div-lt_iff_lt-mul, div-add-mod}
@@ -74,7 +74,7 @@ row_within limits m range lt =
     (omega (arith, lt))
 
 -- ---- areas
--- the block behind an area
+-- the block after an area
 abbrev pub end_of : Limits → Area → ℕ
 end_of limits Properties = axioms_start limits
 end_of limits Axioms = files_start limits
@@ -87,7 +87,7 @@ pub in_area : (limits : Limits) → IsTrue (are_in_range limits) → (area : Are
     → ((slots_of limits area).first ≤ block_of limits area m) × (block_of limits area m < end_of limits area)
 in_area limits range area m lt = search (rules, whole_properties, whole_files, row_within)
 
--- all areas are before the data blocks and behind the record
+-- all areas are before the data blocks and after the records
 pub among_slots : (limits : Limits) → IsTrue (are_in_range limits) → (area : Area) (m : ℕ) → m < (slots_of limits area).count
     → (578 ≤ block_of limits area m) × (block_of limits area m < data_start limits)
 among_slots limits range area m lt = search (rules, in_area)
@@ -105,6 +105,6 @@ one_area k range area n block from to is = search (rules, in_area, same_area)
 pub held_by : (limits : Limits) (area : Area) (m : ℕ) → m < (slots_of limits area).count → (at : ℕ → List ℕ) → held_in limits area at m ≡ bytes_in limits area m (at (block_of limits area m))
 held_by limits area m lt at = search (rules)
 
--- the number of a slot in a block, by its place there
+-- the number of a slot in a block, by its index there
 pub slot_placed : (count first m n p : ℕ) → 0 < p → p ≡ count → first + m / p ≡ n → count * (n - first) + m % p ≡ m
 slot_placed count first m n p some is here = search (rules, div-add-mod)

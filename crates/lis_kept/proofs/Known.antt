@@ -46,7 +46,7 @@ module _ (k : Metadata) (sound : AreSound k) where
       let found = among_flat_map (λ n. option_to_list (word_of k.dict n)) ns w (among_set_of (flat_map (λ n. option_to_list (word_of k.dict n)) ns) w m) in
       (found.0, only_word (word_of k.dict found.0) w found.2, has_from_among ns found.0 found.1)
 
-  -- numbers have the number of a word exactly where their words have the word
+  -- numbers have the number of a word exactly if their words have the word
   pub number_told : (ns : List ℕ) (n : ℕ) (w : List ℕ) → word_of k.dict n ≡ Some w → has_number ns n ≡ has_word (words_told k.dict ns) w
   number_told ns n w is =
       same_tests (has_number ns n) (has_word (words_told k.dict ns) w)
@@ -115,7 +115,7 @@ module _ (k : Metadata) (sound : AreSound k) (free : FreeSlotsAreEmpty k) (at : 
             subst (λ ws. Among ws w) (described f (contains_from_among k.catalog.entries f m)) (word_among k sound (numbers_at k.ext slot) n w is h),
           )
 
-  -- and the other way round
+  -- and conversely
   pub described_slot : (file : File) (w : List ℕ) → Among files file → Among (description (state_of k at) file) w → (n : ℕ) × (word_of k.dict n ≡ Some w) × (slot : ℕ) × (has k.ext n slot ≡ true)
   described_slot file w m has_it =
       let f = among_map (file_told k.limits k.dict at) k.catalog.entries file m in

@@ -21,7 +21,7 @@ true_in bits = count_by (λ (b : Bool). b) bits
 true_set : (bits : List Bool) (n : ℕ) → n < length bits → true_in (set bits n true) ≤ true_in bits + 1
 true_set bits n lt = omega (arith, sum_by-set (λ (b : Bool). cond b 1 0) bits n true false lt)
 
--- each of the blocks is one of so many
+-- each of the blocks is below this number
 abbrev pub AreBelow : ℕ → List ℕ → Type 0
 AreBelow most homes = (n : ℕ) → Among homes n → n < most
 
@@ -105,7 +105,7 @@ marked_within bits (m ∷ ns) within = omega (arith, one_fewer bits m, marked_wi
     rest n is = search (rules, get_or-set_other, both_ways, unset)
 
 -- ---- marks of the blocks of rows
--- where the blocks of the rows of some numbers were marked, and the rows of others are as before
+-- if the blocks of the rows of some numbers were marked, and the rows of others are as before
 module _ (p : Metadata) (sound : AreSound p) (test : ℕ → Bool) (e : Ext) (marks : List Bool) (as_many : length e.sets ≡ length p.ext.sets)
     (are_marks : marks ≡ marked p.marks (map (block_of p.limits Rows) (numbers_where p.ext.props test)))
     (same_row : (n : ℕ) → (n < p.ext.props → test n ≡ false) → (s : ℕ) → has e n s ≡ has p.ext n s) where

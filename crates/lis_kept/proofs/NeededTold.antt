@@ -1,4 +1,4 @@
--- A declared word that nothing needs may go, and what is needed is what is in use in the state that memory tells.
+-- A declared word that nothing needs may be removed, and what is needed is what is in use in the state that memory describes.
 use Rattle.std.proofs.Common.{arith}
 use Rattle.lis_kept.proofs.Common.{◌≡◌, ℕ, true, false, Some, List, is_some, slice_get, ap, ◌&&◌, ◌||◌, not, Bool, map, refl, sym, ap₂, ◌∙◌, subst, both_ways, false_from_ne_true, and_from, word_of, rec_at, has, FileRecord, Pair, is_valued, list_any, flat_map, Contains, and_parts, Among, among_flat_map, flat_map_among, among_from_any, Filed, numbers_at, same_word, has_word, is_test, head_bytes, File, description, same_word_decides, among_from_has_word, any_from_among, has_word_from_among, same_tests}
 use Rattle.lis_blockmap.specs.Bitmap.{is_taken}
@@ -43,7 +43,7 @@ module _ (k : Metadata) (sound : AreSound k) (in_use : KeepsInUse k) (number : �
   pub may_undeclare : MayUndeclare number k
   may_undeclare = record { declared = declared; had = had; lefts = lefts; rights = rights; tags = not_tag; heads = no_head }
 
--- ---- what is needed is what is in use in the state that memory tells
+-- ---- what is needed is what is in use in the state that memory describes
 -- l, r: it is a left or a right side; h: the head of a left one; d: it is described; t: it is a test
 in_order : (l r h d t : Bool) → (t ≡ true → h ≡ false) → ((l || r) || (not t && (h || d))) ≡ ((not t && d) || ((l || h) || r))
 in_order l r h d t none = grind arith

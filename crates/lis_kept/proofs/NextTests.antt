@@ -1,4 +1,4 @@
--- The next weaker test of a test, and what becomes of it where a test comes or goes.
+-- The next weaker test of a test, and what becomes of it when a test is added or removed.
 use Rattle.std.proofs.Common.{arith}
 use Rattle.lis_kept.proofs.Common.{rules, ◌≡◌, ◌⊎◌, inl, inr, refl, sym, ap, ap₂, ◌∙◌, subst, ℕ, ◌+◌, ◌<◌, ◌≤◌, ◌==◌, ◌&&◌, ◌||◌, not, if◌then◌else◌, Bool, true, false, Option, Some, None, is_some, List, same_Some, and_parts, and_from, eqb-true, both_ways, false_from_ne_true, not-true, not_from_false, are_weaker, same_tests, among_from_any, any_from_among, Dict, IsDict, word_of, number_of, number_from_word, number_below}
 use Rattle.std.proofs.lemmas.Bool.{eq-eqb}

@@ -17,7 +17,7 @@ module _ (k : Metadata) (sound : AreSound k) where
   sorted_told : (ns : List ℕ) → IsStrictlySortedBy word_cmp (words_told k.dict ns)
   sorted_told ns = sorted_set_of (flat_map (λ n. option_to_list (word_of k.dict n)) ns)
 
-  -- numbers tell the set of words whose numbers they are
+  -- numbers give the set of words whose numbers they are
   pub numbers_are : (ns : List ℕ) (ws : List (List ℕ)) → IsStrictlySortedBy word_cmp ws → Numbers k.dict (has_number ns) ws → words_told k.dict ns ≡ ws
   numbers_are ns ws sorted numbers =
       same_words (words_told k.dict ns) ws (sorted_told ns) sorted

@@ -1,4 +1,4 @@
--- One number whose word comes or goes, and what stays of all else.
+-- One number that gets or loses its word, and what stays of all else.
 use Rattle.std.proofs.Common.{filter, arith}
 use Rattle.lis_kept.proofs.Common.{rules, ◌≡◌, ◌⊎◌, refl, sym, ap, ap₂, ◌∙◌, subst, inl, inr, ℕ, ◌<◌, ◌==◌, if◌then◌else◌, ◌&&◌, ◌||◌, not, Bool, true, false, List, [], length, map, set, Option, Some, None, is_some, IsSome, length-set, insert_key, list_any, fold, and_parts, cases_eq, ne_eqb, not_from_false, not-true, same_Some, IsStrictlySortedBy-filter, Among, among_filter, among_insert_key, insert_key_old, insert_key_new, sorted_insert_key, Dict, IsDict, number_of, word_of, without_word, number_from_word, Filed, rec_at, has, FileRecord, is_prop, AxiomSlot, FreeAxiom, Pair, Taxonomy, has_edge, word_cmp, same_word, is_valued, head_bytes, with_word, word_order, same_word_decides, are_weaker, all_among, and_from, both_ways, false_from_ne_true, filter_among, same_words}
 use Rattle.std.specs.Option.{option_to_list}
@@ -30,7 +30,7 @@ use Rattle.lis_kept.proofs.NextTests.{none_weaker, next_parts, next_alike}
 use Rattle.lis_kept.proofs.TestLinks.{linked_by}
 use Rattle.lis_kept.proofs.WordMore.{flat_all, sorted_declared, declared_at, at_declared}
 
--- Nothing names the number: no axiom does, no file was given it, and none has it.
+-- Nothing names the number: no axiom does, no file was assigned it, and none has it.
 pub record IsUnnamed (k : Metadata) (number : ℕ) : Type 0 where
   pub sides : IsNoSide k.axioms number
   pub tags : (slot : ℕ) (rec : FileRecord) → rec_at k.catalog slot ≡ Some rec → has_number rec.tags number ≡ false
@@ -142,7 +142,7 @@ module _ (p : Metadata) (sound : AreSound p) {number : ℕ} {d : Dict} {bits mar
   pub marks_then : Marks 1 p after
   marks_then = grind (arith, block_marked p after (block_of p.limits Properties number), among_slots p.limits sound.range Properties number w.below)
 
-  -- ---- what is told
+  -- ---- what memory describes
   pair_same : (a : AxiomSlot) → Among p.axioms a → pair_told d a ≡ pair_told p.dict a
   pair_same FreeAxiom m = refl
   pair_same (Pair left right) m =
@@ -173,14 +173,14 @@ module _ (p : Metadata) (sound : AreSound p) {number : ℕ} {d : Dict} {bits mar
   other_bit : (flags : List Bool) → is_taken flags number ≡ false → (n : ℕ) → is_taken flags n ≡ true → n ≡ number → ⊥
   other_bit flags none n bit same = both_ways (is_taken flags number) none (ap (is_taken flags) (sym same) ∙ bit)
 
-  -- as before, where the number's is not declared
+  -- as before, if the number's is not declared
   pub declared_same : is_taken p.declared number ≡ false → is_taken bits number ≡ false → declared_of after ≡ declared_of p
   declared_same was now =
       same_words (declared_of after) (declared_of p) (sorted_declared after w.dict) (sorted_declared p sound.dict)
       (λ v m. let at = declared_at after w.dict v m in declared_was v at.0 (other_bit bits now at.0 at.2) at.1 at.2)
       (λ v m. let at = declared_at p sound.dict v m in declared_stays v at.0 (other_bit p.declared was at.0 at.2) at.1 at.2)
 
-  -- with the number's word, where it is declared now
+  -- with the number's word, if it is declared now
   pub declared_more : (word : List ℕ) → word_of d number ≡ Some word → is_taken p.declared number ≡ false → is_taken bits number ≡ true → declared_of after ≡ with_word (declared_of p) word
   declared_more word here was now =
       same_words (declared_of after) (with_word (declared_of p) word) (sorted_declared after w.dict) (sorted_insert_key word_cmp word_order (declared_of p) word (sorted_declared p sound.dict))
@@ -195,7 +195,7 @@ module _ (p : Metadata) (sound : AreSound p) {number : ℕ} {d : Dict} {bits mar
       from v (inl same) = subst (λ u. Among (declared_of after) u) same (at_declared after w.dict number word here now)
       from v (inr m) = let at = declared_at p sound.dict v m in declared_stays v at.0 (other_bit p.declared was at.0 at.2) at.1 at.2
 
-  -- without the number's word, where it was declared
+  -- without the number's word, if it was declared
   pub declared_less : (word : List ℕ) → word_of p.dict number ≡ Some word → is_taken bits number ≡ false → declared_of after ≡ filter (λ v. not (same_word v word)) (declared_of p)
   declared_less word there now =
       same_words (declared_of after) (filter (λ v. not (same_word v word)) (declared_of p)) (sorted_declared after w.dict)
@@ -229,7 +229,7 @@ module _ (p : Metadata) (sound : AreSound p) {number : ℕ} {d : Dict} {bits mar
   pub heads_elsewhere : (x y : ℕ) → (x ≡ number → ⊥) → (y ≡ number → ⊥) → is_head_by (word_of d x) (word_of d y) ≡ is_head_by (word_of p.dict x) (word_of p.dict y)
   heads_elsewhere x y differ apart = ap₂ is_head_by (same_word_there x differ) (same_word_there y apart)
 
-  -- edges that are those of the number, and else those that there were, where its word is declared neither before nor after
+  -- edges that are those of the number, and otherwise those that there were, if its word is declared neither before nor after
   pub held_then : (t u : Taxonomy) → HasEdges p t → u.props ≡ t.props → is_taken p.declared number ≡ false → is_taken bits number ≡ false → ((y : ℕ) → has_edge u number y ≡ is_edge after number y)
       → ((x : ℕ) → (x ≡ number → ⊥) → has_edge u x number ≡ is_edge after x number) → ((x y : ℕ) → (x ≡ number → ⊥) → (y ≡ number → ⊥) → has_edge u x y ≡ has_edge t x y) → AreHeld after u
   held_then t u links props was now from to elsewhere = record {
@@ -268,7 +268,7 @@ module _ (p : Metadata) (sound : AreSound p) {number : ℕ} {d : Dict} {bits mar
   pub used_same : (n : ℕ) → (n ≡ number → ⊥) → is_used after n ≡ is_used p n
   used_same n differ = ap₂ (λ a b. a || is_had p.ext n || b) (w.others n differ).1 (lefts_same n differ)
 
--- ---- a word that comes
+-- ---- a word that is added
 -- a word without a number is no known word's head
 pub new_no_head : (k : Metadata) → AreSound k → (word : List ℕ) → number_of k.dict word ≡ None → (n : ℕ) → is_head_by (word_of k.dict n) (Some word) ≡ false
 new_no_head k sound word new n = by (word_of k.dict n) refl
@@ -340,7 +340,7 @@ module _ (p : Metadata) (sound : AreSound p) {word : List ℕ} {number : ℕ} {d
       stays true o some = refl
       stays false o some = some
 
--- ---- a word that goes
+-- ---- a word that is removed
 -- nothing names its number, and it is no known word's head
 pub record Goes (p : Metadata) (word : List ℕ) (number : ℕ) (d : Dict) : Type 0 where
   pub there : word_of p.dict number ≡ Some word

@@ -1,4 +1,4 @@
--- The links that words have by themselves.
+-- The own links of words.
 use Rattle.lis_kept.proofs.Common.{common_steps, rules, [], ◌∷◌, ◌≡◌, ℕ, true, false, Option, Some, None, is_some, IsSome, slice_get, List, refl, ap, ◌∙◌, and_parts, or_cases, eqb-true, same_Some, Among, among_right, among_from_any, contains_from_among, word_of, AxiomSlot, Pair, same_word, has_word, head_bytes, is_valued, is_test, is_plain_word, is_undeclared, same_word_decides, among_from_has_word, all_among, OwnLink, own_link, Head, Weaker, and_from, both_ways, false_from_ne_true, has_word_from_among, same_tests}
 use native.Mathlib.Omega.{arith}
 use Rattle.std.proofs.lemmas.Option.{slice_get-get_or}
@@ -10,7 +10,7 @@ use Rattle.lis_kept.specs.Telling.{declared_of, is_head_by}
 use Rattle.lis_kept.specs.Sound.{AreSound}
 use Rattle.lis_kept.specs.Links.{is_own_link, is_linked, has_pair}
 
--- a member stands in some place
+-- a member is at some index
 pub placed_at : {X : Type 0} (xs : List X) (x : X) → Among xs x → (n : ℕ) × (slice_get xs n ≡ Some x)
 placed_at xs x m = search (rules, contains_from_among, slice_get-get_or)
 
@@ -24,7 +24,7 @@ slot_at = placed_at
 pub among_slot : (axioms : List AxiomSlot) (i : ℕ) (a : AxiomSlot) → slice_get axioms i ≡ Some a → Among axioms a
 among_slot = among_place
 
--- ---- links of words by themselves, whatever tests are declared
+-- ---- own links of words, whatever tests are declared
 pub own_to_none : (declared : List (List ℕ)) (o : Option (List ℕ)) → is_own_link declared o None ≡ false
 own_to_none declared o = search (rules)
 
@@ -58,7 +58,7 @@ plain_no_head l r plain same = grind (arith, common_steps, and_parts, all_among,
 not_head : (o w : Option (List ℕ)) → ((r : List ℕ) → w ≡ Some r → is_plain_word r ≡ true) → is_head_by o w ≡ false
 not_head o w plain = grind (arith, common_steps, false_from_ne_true, plain_no_head, same_word_decides, and_parts)
 
--- no word leads to a plain word by itself
+-- no own link of a word leads to a plain word
 pub own_to_plain : (declared : List (List ℕ)) (o r : Option (List ℕ)) → ((v : List ℕ) → r ≡ Some v → is_plain_word v ≡ true) → is_own_link declared o r ≡ false
 own_to_plain declared o r plain = grind (arith, common_steps, own_to_none, own_to, plain_not_test, not_head)
 

@@ -28,7 +28,7 @@ row_bytes_none e prop n wide none =
     let count : n ≡ length e.sets / 8 = omega (arith, wide) in
     bytes_none n (has e prop) none ∙ ap (λ m. bits_bytes m (has e prop)) count
 
--- what the row tells is all that it depends on
+-- a row depends only on which files have its number
 pub row_bytes_same : (d e : Ext) (prop : ℕ) → length e.sets ≡ length d.sets → ((file : ℕ) → has e prop file ≡ has d prop file) → row_bytes e prop ≡ row_bytes d prop
 row_bytes_same d e prop count same =
     ap (λ n. bits_bytes (n / 8) (has e prop)) count ∙ bytes_same (length d.sets / 8) (has e prop) (has d prop) (λ file lt. same file)

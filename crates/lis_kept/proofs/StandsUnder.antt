@@ -33,11 +33,11 @@ under_step : (word : List ℕ) (axioms : List (List ℕ × List ℕ)) (ws : List
 under_step word axioms [] w = refl
 under_step word axioms (v ∷ ws) w = under_step word (with_axiom axioms (word, v)) ws w
 
--- one word more
+-- one more word
 pub under_more : (s : State) (word : List ℕ) (ws : List (List ℕ)) (w : List ℕ) → axiom_added (declared_under s word ws) (word, w) ≡ declared_under s word (ws ++ w ∷ [])
 under_more s word ws w = ap (λ (axioms : List (List ℕ × List ℕ)). record s { declared = with_word s.declared word; axioms = axioms }) (under_step word s.axioms ws w)
 
--- ---- axioms one after another
+-- ---- axioms in sequence
 pub each_more : (left : ℕ) (rights : List ℕ) (right : ℕ) (p q r : Metadata) → LinksEach left rights p q → Links left right q r → LinksEach left (rights ++ right ∷ []) p r
 each_more left [] right p q r is last = (r, subst (λ (k : Metadata). Links left right k r) is last, refl)
 each_more left (first ∷ rights) right p q r each last = (each.0, each.1, each_more left rights right each.0 q r each.2 last)
@@ -117,7 +117,7 @@ each_used left (right ∷ rights) p q each n used =
 pub under_used : (word : List ℕ) (p mid q : Metadata) (declares : Declares word p mid) (rights : List ℕ) → LinksEach declares.number rights mid q → AreUsed p → AreUsed q
 under_used word p mid q declares rights each used n some = search (rules, each_used, each_dict)
 
--- ---- a new word comes under others, axiom by axiom
+-- ---- a new word is declared under others, axiom by axiom
 -- ---- lists
 among_take : (i : ℕ) (ns : List ℕ) (n : ℕ) → Among (take i ns) n → Among ns n
 among_take zero ns n m = absurd m
@@ -128,7 +128,7 @@ among_take (suc i) (x ∷ ns) n (inr m) = inr (among_take i ns n m)
 among_at : (ns : List ℕ) (i : ℕ) → i < length ns → Among ns (get_or ns i 0)
 among_at ns i lt = among_from_contains ns (get_or ns i 0) (Contains-get_or ns i 0 lt)
 
--- what stands in a place is none of those before it, where none stands twice
+-- what is at an index is none of those before it, if none occurs twice
 not_before : (ns : List ℕ) (i : ℕ) → are_distinct ns ≡ true → i < length ns → has_number (take i ns) (get_or ns i 0) ≡ false
 not_before [] i distinct lt = absurd (omega (arith, lt))
 not_before (n ∷ ns) zero distinct lt = refl
@@ -142,7 +142,7 @@ not_before (n ∷ ns) (suc i) distinct lt =
 plain_word : (o : Option (List ℕ)) → is_plain_by o ≡ true → (w : List ℕ) × (o ≡ Some w) × (is_plain_word w ≡ true)
 plain_word o plain = search (rules, both_ways)
 
--- ---- axioms one after another
+-- ---- axioms in sequence
 none_in : (b c : Bool) → c ≡ ((b && false) || c)
 none_in b c = grind arith
 
@@ -201,7 +201,7 @@ module _ (p mid now : Metadata) (sound : AreSound p) (after : AreSound now) (wor
     named : word_of now.dict number ≡ Some word
     named = word_now number ∙ ap (λ b. if b then Some word else word_of p.dict number) (eq-eqb number number refl)
 
-    -- the word of each of the numbers is known, so that none is the new one
+    -- the word of each of the numbers is known, so none is the new one
     plain_at : (n : ℕ) → Among rights n → is_plain_by (word_of p.dict n) ≡ true
     plain_at n m = all_among (λ j. is_plain_by (word_of p.dict j)) rights n may.plain m
 
@@ -242,7 +242,7 @@ module _ (p mid now : Metadata) (sound : AreSound p) (after : AreSound now) (wor
         by true = ap (λ b. b && same_word (head_bytes word) word) (declarable_not_valued word form)
         by false = new_no_head p sound word new x
 
-    -- where it is no test
+    -- if it is no test
     nothing : is_test word ≡ false → (x : ℕ) → is_linked now x number ≡ false
     nothing tested x =
         ap₂ (λ a b. a || b)

@@ -1,4 +1,4 @@
--- Edges between tests close no circle.
+-- Edges between tests make no cycle.
 use Rattle.std.proofs.Common.{OnOk, OnErr, arith}
 use Rattle.lis_words.specs.declared.test.Test.{Test}
 use Rattle.lis_kept.proofs.Common.{rules, ◌≡◌, ◌⊎◌, ℕ, zero, suc, ◌+◌, ◌-◌, ◌≤◌, ◌==◌, ◌&&◌, ◌||◌, not, cond, Bool, true, false, Option, Some, None, is_some, List, ◌↔◌, Result, Ok, Err, IsTrue, refl, sym, ap, ap₂, ◌∙◌, subst, inl, inr, Contains, and_parts, or_cases, eqb-true, Chain, among_from_contains, Dict, IsDict, word_of, EdgeFault, Present, Cycle, Absent, Taxonomy, no_links, has_edge, with_edge, without_edge, are_weaker}
@@ -37,7 +37,7 @@ module _ (dict : Dict) (t : Taxonomy) (ordered : TestsAreOrdered dict t) where
       by (inl same) = weaker_apart (test p) (subst (λ n. are_weaker (test n) (test p) ≡ true) same weaker)
       by (inr back) = weaker_apart (test q) (weaker_trans (test q) (test p) (test q) weaker back)
 
--- ---- an edge more, and one fewer
+-- ---- one more edge, and one fewer
 both_swapped : (x y p q : ℕ) → ((p == x) && (q == y)) ≡ ((x == p) && (y == q))
 both_swapped x y p q = ap₂ (λ a b. a && b) (swapped p x) (swapped q y)
 
@@ -56,7 +56,7 @@ pair_was t x y there = record { props = refl; edges = λ p q. by p q (x == p) (y
     by p q true false e f = refl
     by p q false b e f = refl
 
--- a new edge between tests comes, or was there
+-- a new edge between tests is added, or was there
 pub pair_linked : {T : Type 0} (dict : Dict) (declared : List Bool) (t u : Taxonomy) (p q : ℕ) (r : Result T EdgeFault) → TestsAreOrdered dict t
     → ((r ≡ Err Present) ↔ IsTrue (has_edge t p q)) → ((r ≡ Err Cycle) ↔ Entails t q p) → (r ≡ Err Absent → ⊥) → OnOk r (u ≡ with_edge t p q) → OnErr r (u ≡ t)
     → is_test_link dict declared p q ≡ true → LinksPair (Some p) (Some q) t u
@@ -65,7 +65,7 @@ pair_linked dict declared t u p q (Err Present) ordered present cycle absent ok 
 pair_linked dict declared t u p q (Err Cycle) ordered present cycle absent ok err link = absurd (no_way_back dict t ordered p q (test_link dict declared p q link).weaker (cycle.0 refl))
 pair_linked dict declared t u p q (Err Absent) ordered present cycle absent ok err link = absurd (absent refl)
 
--- an edge goes, or was not there
+-- an edge is removed, or was not there
 pub pair_unlinked : {T : Type 0} (t u : Taxonomy) (x y : ℕ) (r : Result T EdgeFault) → OnOk r (u ≡ without_edge t x y) → OnErr r (u ≡ t) → OnErr r (r ≡ Err Absent) → ((r ≡ Err Absent) ↔ (has_edge t x y ≡ false))
     → UnlinksPair (Some x) (Some y) t u
 pair_unlinked t u x y (Ok done) gone same only absent = subst (UnlinksPair (Some x) (Some y) t) (sym gone) (record {
@@ -80,7 +80,7 @@ pair_unlinked t u x y (Err fault) gone same only absent =
     by p q true false e f = refl
     by p q false b e f = refl
 
--- at most one edge more
+-- at most one more edge
 pub one_more : {T : Type 0} (t u : Taxonomy) (p q : ℕ) (r : Result T EdgeFault) → OnOk r (u ≡ with_edge t p q) → OnErr r (u ≡ t) → edge_count u ≤ edge_count t + 1
 one_more t u p q (Ok done) ok err = by (cases_Bool (has_edge t p q))
   where
@@ -104,7 +104,7 @@ no_more t u p q (Ok done) ok err = by (cases_Bool (has_edge t p q))
     by (inr none) = omega (arith, long ∙ ap (λ b. cond b (edge_count t - 1) (edge_count t)) none)
 no_more t u p q (Err fault) ok err = omega (arith, ap edge_count err)
 
--- ---- to tests edges lead from stronger tests alone, then as before
+-- ---- edges to tests still lead from stronger tests alone
 pub linked_ordered : (dict : Dict) (declared : List Bool) (from to : Option ℕ) (t u : Taxonomy) → LinksPair from to t u → AreInOrder dict declared from to → TestsAreOrdered dict t → TestsAreOrdered dict u
 linked_ordered dict declared from to t u links order ordered p q edge tested = by (or_cases (is_at from p && is_at to q) (has_edge t p q) (sym (links.edges p q) ∙ edge))
   where

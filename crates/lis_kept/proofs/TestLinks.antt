@@ -15,12 +15,12 @@ use Rattle.lis_kept.proofs.NextTests.{none_weaker, no_test, test_link, test_link
 use Rattle.lis_kept.proofs.OwnLinks.{pair_slot, own_head, unnamed_to, unnamed_from}
 use Rattle.lis_kept.proofs.WordMore.{declared_there, there_declared}
 
--- ---- links of words by themselves are those to heads and between tests
+-- ---- own links of words are those to heads and between tests
 pub own_link_by : (k : Metadata) → IsDict k.dict → (p q : ℕ)
     → is_own_link (declared_of k) (word_of k.dict p) (word_of k.dict q) ≡ (is_head_by (word_of k.dict p) (word_of k.dict q) || is_test_link k.dict k.declared p q)
 own_link_by k dict p q = by (word_of k.dict p) refl (word_of k.dict q) refl
   where
-    -- the word of a number is declared where its bit is set
+    -- the word of a number is declared exactly if its bit is set
     bit : (n : ℕ) (w : List ℕ) → word_of k.dict n ≡ Some w → is_declared k w ≡ is_taken k.declared n
     bit n w is = ap (bit_of k.declared) (number_from_word k.dict dict w n is)
 
@@ -82,7 +82,7 @@ edge_linked k dict p q h = by (or_cases (is_head_by (word_of k.dict p) (word_of 
     by (inl own) = or_left (is_own_link (declared_of k) (word_of k.dict p) (word_of k.dict q)) (has_pair k.axioms p q) (own_edge k dict p q own)
     by (inr pair) = or_right (is_own_link (declared_of k) (word_of k.dict p) (word_of k.dict q)) (has_pair k.axioms p q) pair
 
--- where there is no link there is no edge
+-- if there is no link there is no edge
 pub no_edge : (k : Metadata) → IsDict k.dict → (p q : ℕ) → is_linked k p q ≡ false → is_edge k p q ≡ false
 no_edge k dict p q none = false_from_ne_true (is_edge k p q) (λ h. both_ways (is_linked k p q) none (edge_linked k dict p q h))
 
@@ -93,7 +93,7 @@ none_to p t held number free x = held.links.edges x number ∙ no_edge p held.so
 pub none_from : (p : Metadata) (t : Taxonomy) → AreHeld p t → (number : ℕ) → word_of p.dict number ≡ None → (x : ℕ) → has_edge t number x ≡ false
 none_from p t held number free x = held.links.edges number x ∙ no_edge p held.sound.dict number x (unnamed_from p held.sound number free x)
 
--- ---- to a test links lead from stronger tests alone
+-- ---- links to a test lead from stronger tests alone
 pub no_head_none : (o : Option (List ℕ)) → is_head_by o None ≡ false
 no_head_none None = refl
 no_head_none (Some w) = refl

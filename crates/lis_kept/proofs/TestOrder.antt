@@ -111,7 +111,7 @@ number_spelled ds h =
         by (inl differ) = absurd (let same : (x == 48) ≡ true = ap (λ n. n == 48) zero in let no = not-true (x == 48) differ in cc)
         by (inr one) = eqb-true (length (x ∷ xs)) 1 one
 
--- what a number behind a sign says of the word
+-- what a number after a sign says of the word
 behind : (sign word : List ℕ) (n : ℕ) → number_behind sign word ≡ Some n → word ≡ sign ++ decimal n
 behind sign word n h = by (same_word (take (length sign) word) sign && is_number (drop (length sign) word)) refl h
   where

@@ -154,7 +154,7 @@ module _ (d : Dict) (kept : IsDict d) (bits : List Bool) (e : Dict) (kept_e : Is
       more_by (inl next) = inl (next_from d kept bits x y next)
       more_by (inr both) = inr both
 
-  -- away from the number, where not both are neighbours
+  -- away from the number, if not both are neighbours
   away : (sx wy f g : Bool) → Around sx wy false false f g → ((sx ≡ true) × (wy ≡ true) → ⊥) → f ≡ g
   away sx wy f g a none = same_tests f g (λ h. a.fewer refl refl h) (λ h. by (a.more h))
     where

@@ -1,4 +1,4 @@
--- What the tests tell by which numbers in use are found.
+-- What the tests say by which numbers in use are found.
 use Rattle.std.proofs.Common.{arith}
 use Rattle.lis_kept.proofs.Common.{common_steps, rules, ◌≡◌, ◌⊎◌, inl, inr, slice_get, refl, sym, ap, ap₂, ◌∙◌, ℕ, ◌<◌, ◌==◌, ◌||◌, Bool, true, false, List, [], ◌∷◌, length, Option, Some, is_some, IsSome, IfSome, IfNone, list_any, and_parts, ne_eqb, eqb-true, or_cases, Among, among_from_any, contains_from_among, NoneTrue, get, Dict, IsDict, word_of, number_from_word, word_from_number, Ext, has, AxiomSlot, FreeAxiom, Pair, is_valued, same_word_decides, head_not_valued, and_from, both_ways, false_from_ne_true, or_left, or_right, any_from_among, same_tests}
 use Rattle.std.proofs.lemmas.Bool.{eq-eqb}

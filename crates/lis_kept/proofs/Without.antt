@@ -1,4 +1,4 @@
--- Whether a description has a number where that in a slot is left out, told by counts.
+-- Whether a description has a number if the one in a slot is left out, by counts.
 use Rattle.std.proofs.Common.{◌⊎◌, inl, inr, zero, suc, nat_lt, if◌then◌else◌, refl, arith}
 use Rattle.std.proofs.lemmas.List.{set_past}
 use Rattle.lis_kept.proofs.Common.{rules, ◌≡◌, sym, ap, ◌∙◌, subst, ℕ, ◌+◌, ◌<◌, ◌≤◌, true, false, [], length, set, get_or-set_same, get_or-set_other, length-set, get_or_past, cases_lt, lt-ltb, Ext, has, both_ways}
@@ -36,7 +36,7 @@ module _ (e : Ext) (slot n : ℕ) where
   pub had_counted : nat_lt 0 (count_of (left_out e slot).sets n) ≡ is_had (left_out e slot) n
   had_counted = any_counted (λ ns. has_number ns n) (left_out e slot).sets
 
-  -- the slot has it, and then another one where there are two
+  -- the slot has it; then another one has it exactly if there are two
   pub had_twice : has e n slot ≡ true → nat_lt 1 (count_of e.sets n) ≡ is_had (left_out e slot) n
   had_twice here = by (cases_lt slot (length e.sets))
     where

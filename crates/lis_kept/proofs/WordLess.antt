@@ -29,7 +29,7 @@ not_left k number lefts slot left right is same =
     both_ways (list_any (is_left_of number) k.axioms) (neither (list_any (is_left_of number) k.axioms) (list_any (is_left_head_of k.dict number) k.axioms) lefts).0
     (any_from_among (is_left_of number) k.axioms (Pair left right) (among_slot k.axioms slot (Pair left right) is) (eq-eqb left number same))
 
--- edges of which one comes between tests for some that go: `s` is it, `a` and `b` are those, `h`, `f` and `c` to heads, between tests and by axioms
+-- edges of which one between tests replaces some: `s` is it, `a` and `b` are those, `h`, `f` and `c` to heads, between tests and by axioms
 taken_out : (a b s h f c : Bool) → (a ≡ true → (h ≡ false) × (c ≡ false)) → (b ≡ true → (h ≡ false) × (c ≡ false)) → (s || (not a && (not b && ((h || f) || c)))) ≡ ((h || (s || (not a && (not b && f)))) || c)
 taken_out true b s h f c to from = let no = to refl in sym (ap₂ (λ i j. (i || (s || false)) || j) no.0 no.1 ∙ or-false (s || false))
 taken_out false true s h f c to from = let no = from refl in sym (ap₂ (λ i j. (i || (s || false)) || j) no.0 no.1 ∙ or-false (s || false))

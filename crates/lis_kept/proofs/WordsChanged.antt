@@ -28,7 +28,7 @@ use Rattle.lis_kept.specs.Forgetting.{MayGo}
 use Rattle.lis_kept.specs.Passes.{ForgetsWhere}
 use Rattle.lis_kept.proofs.WordLess.{not_left}
 
--- edges of which some come for one that goes between tests: `a` and `b` are those, `s` the one, `h`, `g` and `c` to heads, between tests and by axioms
+-- edges of which some replace one between tests: `a` and `b` are those, `s` the one, `h`, `g` and `c` to heads, between tests and by axioms
 placed : (a b s h g c : Bool) → (s ≡ true → (h ≡ false) × (c ≡ false)) → (a || (b || (not s && ((h || g) || c)))) ≡ ((h || (a || (b || (not s && g)))) || c)
 placed a b true h g c none =
     let no = none refl in

@@ -67,7 +67,7 @@ IsWritten k at = (area : Area) (n : ℕ) → n < (slots_of k.limits area).count 
 abbrev pub is_marked : Metadata → ℕ → Bool
 is_marked k block = is_taken k.marks block
 
--- every slot is, but in blocks that are yet to be written
+-- every slot is, except in blocks that are yet to be written
 abbrev pub IsSaved : Metadata → (ℕ → List ℕ) → Type 0
 IsSaved k at =
     (area : Area) (n : ℕ) → n < (slots_of k.limits area).count → is_marked k (block_of k.limits area n) ≡ false

@@ -1,4 +1,4 @@
--- The changes of memory. Each marks the blocks that it touches, and tells what becomes of the state.
+-- The changes of memory. Each marks the blocks that it touches, and says what becomes of the state.
 use Rattle.std.specs.Prelude.{◌≡◌, ◌⊎◌, ℕ, ◌+◌, ◌<◌, ◌≤◌, nat_lt, Bool, true, false, ◌&&◌, not, if◌then◌else◌, is_some, Some, None, List, [], length, map, slice_set, IsTrue}
 use Rattle.lis_journal.specs.Journal.{Held, shape_of}
 use Rattle.lis_ports.specs.Meaning.{Meaning}
@@ -25,7 +25,7 @@ use Rattle.lis_kept.specs.Areas.{IsSaved, block_of, marked_count}
 use Rattle.lis_kept.specs.Areas.Area.{Properties, Files as FileArea, Rows}
 use Rattle.lis_kept.specs.Telling.{state_of, words_told, bytes_told, blocks_told, is_used, AreUsed}
 
--- what every change owes: slots in blocks that are not marked are spelled as before, and few blocks more are marked
+-- what every change keeps: slots in blocks that are not marked are spelled as before, and at most `most` more blocks are marked
 pub record Marks (most : ℕ) (p q : Metadata) : Type 0 where
   pub saved : (at : ℕ → List ℕ) → IsSaved p at → IsSaved q at
   pub few : marked_count q ≤ marked_count p + most
@@ -43,7 +43,7 @@ pub record Declares (word : List ℕ) (p q : Metadata) : Type 0 where
   }
   pub marks : Marks 1 p q
   pub state : (at : ℕ → List ℕ) → state_of q at ≡ declared_under (state_of p at) word []
-  -- where every known word was in use, so it is still
+  -- if every known word was in use, it still is
   pub used : AreUsed p → AreUsed q
 
 -- A word that is known and not declared, with its number: the one that it had, or a free one.
@@ -60,7 +60,7 @@ pub record Learns (word : List ℕ) (number : ℕ) (p q : Metadata) : Type 0 whe
   pub only : (n : ℕ) (w : List ℕ) → word_of q.dict n ≡ Some w → (word_of p.dict n ≡ Some w) ⊎ ((n ≡ number) × (w ≡ word))
   pub state : (at : ℕ → List ℕ) → state_of q at ≡ state_of p at
 
--- Of these numbers those that are not in use have no word any more.
+-- Those of these numbers that are not in use have no word any more.
 pub record Forgets (numbers : List ℕ) (p q : Metadata) : Type 0 where
   pub metadata : q ≡ record p { dict = q.dict; marks = q.marks }
   pub props : q.dict.props ≡ p.dict.props
@@ -70,8 +70,8 @@ pub record Forgets (numbers : List ℕ) (p q : Metadata) : Type 0 where
   pub used : (n : ℕ) → is_some (word_of q.dict n) ≡ true → is_used q n ≡ is_used p n
 
 -- ---- descriptions
--- The file slot has these numbers now. At most as many bits of rows are edited as differ, the count of edits does not fall, and of exactly
--- these rows the blocks are marked.
+-- The file slot has these numbers now. At most as many edits of rows are made as there are numbers that differ, the count of edits does not
+-- fall, and exactly the blocks of these rows are marked.
 pub record Describes (slot : ℕ) (numbers : List ℕ) (p q : Metadata) : Type 0 where
   pub metadata : q ≡ record p { ext = q.ext; marks = q.marks }
   pub props : q.ext.props ≡ p.ext.props
@@ -83,7 +83,7 @@ pub record Describes (slot : ℕ) (numbers : List ℕ) (p q : Metadata) : Type 0
   pub marks : (old : List ℕ) → old ≡ set_of p.ext slot → Marks (length (numbers_where p.ext.props (differs old numbers))) p q
 
 -- ---- files
--- The file in the slot goes. Its blocks stay taken.
+-- The file in the slot is removed. Its blocks stay taken.
 pub record Drops (slot : ℕ) (rec : FileRecord) (p q : Metadata) : Type 0 where
   pub there : rec_at p.catalog slot ≡ Some rec
   pub metadata : q ≡ record p {
@@ -93,7 +93,7 @@ pub record Drops (slot : ℕ) (rec : FileRecord) (p q : Metadata) : Type 0 where
   pub marks : Marks 1 p q
   pub state : (at : ℕ → List ℕ) → state_of q at ≡ file_removed (state_of p at) rec.name
 
--- A record comes into a free slot. Its file has the bytes that its blocks hold.
+-- A record is put into a free slot. Its file has the bytes that its blocks hold.
 pub record Files (slot : ℕ) (rec : FileRecord) (p q : Metadata) : Type 0 where
   pub below : slot < p.limits.files
   pub free : rec_at p.catalog slot ≡ None
@@ -111,29 +111,29 @@ pub record Takes (taken : List Bool) (p q : Metadata) : Type 0 where
   pub len : length taken ≡ length p.taken
   pub marks : Marks 1 p q
 
--- The blocks of a file are given back: those that its slot and its index block number, by what the disk keeps under this journal. Without
--- an index block they are those of the slot, whatever the disk keeps.
+-- The blocks of a file are freed: those that its slot and its index block number, by what the disk keeps under this journal. Without an
+-- index block they are those of the slot, whatever the disk keeps.
 pub record GivesBack (rec : FileRecord) (p q : Metadata) (journal : Held) (m : Meaning) : Type 0 where
   pub takes : Takes q.taken p q
   pub small : is_large rec.size ≡ false → q.taken ≡ given p.taken rec.blocks
   pub given : (kept : ℕ → List ℕ) → Fits journal m kept → q.taken ≡ given p.taken (blocks_told p.limits (looked journal.staged kept) rec)
 
--- Blocks hold a content: the disk keeps the same as before in all others, and in these the bytes, which the numbers tell.
+-- Blocks hold a content: the disk keeps the same as before in all others, and in these the bytes, which the numbers give.
 pub record Lands (limits : Limits) (bytes numbers blocks : List ℕ) (at : ℕ → List ℕ) (new : Held) (after : Meaning) : Type 0 where
   pub kept : ℕ → List ℕ
   pub fits : Fits new after kept
   pub same : (n : ℕ) → has_home (data_start limits) blocks n ≡ false → looked new.staged kept n ≡ at n
   pub holds : HasFile (data_start limits) bytes numbers blocks (looked new.staged kept)
 
--- A content is put into free blocks, or was begun to be: at any moment a crash leaves all other blocks as before.
+-- A content is put into free blocks, or a put of it was begun: at any moment a crash leaves all other blocks as before.
 pub record Fills (blocks : List ℕ) (p : Metadata) (old : Held) (before after : Meaning) : Type 0 where
   pub distinct : IsTrue (are_distinct blocks)
   pub were_free : IsTrue (are_free p.taken blocks)
   pub moments : (kept : ℕ → List ℕ) → Fits old before kept → Leaves before after (StandsBut old.layout (homes_of (data_start p.limits) blocks) kept)
   pub past : (kept : ℕ → List ℕ) → Fits old before kept → KeepsPast old.layout.blocks before after
 
--- A content is put into free blocks, which are taken: staged, or placed with an index block where it is large. `old` and `new` are the
--- journal before and after. Nothing else is staged or placed.
+-- A content is put into free blocks, which are taken: staged, or placed with an index block if it is large. `old` and `new` are the journal
+-- before and after. Nothing else is staged or placed.
 pub record Puts (bytes numbers : List ℕ) (p q : Metadata) (old new : Held) (before after : Meaning) : Type 0 where
   pub blocks : List ℕ
   pub fills : Fills blocks p old before after

@@ -14,7 +14,7 @@ record_blocks limits = RECORD_BLOCKS
 abbrev pub image_layout : Limits → Layout
 image_layout limits = record { records = record_blocks limits; blocks = image_blocks limits }
 
--- A record of 575 blocks has a header of one block. A file has 256 blocks at most, and one that numbers them.
+-- A record of 575 blocks has a header of one block. A file has at most 256 blocks of content, and an index block that numbers them.
 abbrev pub image_capacity : Limits → Capacity
 image_capacity limits = record { staged = MAX_STAGED; placed = MAX_PLACED }
 

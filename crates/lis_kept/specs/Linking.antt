@@ -1,4 +1,4 @@
--- An axiom more, and one fewer.
+-- One more axiom, and one fewer.
 use Rattle.std.specs.Prelude.{◌≡◌, ℕ, ◌<◌, ◌==◌, true, false, Bool, not, ◌&&◌, ◌||◌, Some, List, slice_get, slice_set, IsTrue}
 use Rattle.lis_dict.specs.Dict.{word_of}
 use Rattle.lis_fields.specs.declared.slots.AxiomSlot.{AxiomSlot}
@@ -38,8 +38,8 @@ pub record MayLink (left right : ℕ) (k : Metadata) : Type 0 where
   pub below : slot < k.limits.props
   pub free : slice_get k.axioms slot ≡ Some FreeAxiom
 
--- The axiom from the word of the one number to that of the other stands in a slot that was free. Its left word and the head of that are in
--- use from now on.
+-- The axiom from the word of the one number to that of the other is in a slot that was free. Its left word and the head of that are in use
+-- from now on.
 pub record Links (left right : ℕ) (p q : Metadata) : Type 0 where
   pub slot : ℕ
   pub below : slot < p.limits.props
@@ -54,14 +54,14 @@ pub record Links (left right : ℕ) (p q : Metadata) : Type 0 where
   pub state : (at : ℕ → List ℕ) (l r : List ℕ) → word_of p.dict left ≡ Some l → word_of p.dict right ≡ Some r → state_of q at ≡ axiom_added (state_of p at) (l, r)
   pub used : (n : ℕ) → is_used q n ≡ ((left == n) || is_head_by (word_of p.dict left) (word_of p.dict n) || is_used p n)
 
--- The axiom from the word of the one number to that of the other is in one slot. Its right word is plain, so that it is no head to which a
--- link leads by itself.
+-- The axiom from the word of the one number to that of the other is in one slot. Its right word is plain, so it is no head, to which an own
+-- link could lead.
 pub record MayUnlink (left right : ℕ) (k : Metadata) : Type 0 where
   pub there : has_pair k.axioms left right ≡ true
   pub once : (slot other : ℕ) → slice_get k.axioms slot ≡ Some (Pair left right) → slice_get k.axioms other ≡ Some (Pair left right) → slot ≡ other
   pub plain : (to : List ℕ) → word_of k.dict right ≡ Some to → IsTrue (is_plain_word to)
 
--- Its slot is free. Only its left word and the head of that may be in use no more.
+-- The slot of the axiom is free now. Only its left word and the head of that may no longer be in use.
 pub record Unlinks (left right : ℕ) (p q : Metadata) : Type 0 where
   pub slot : ℕ
   pub below : slot < p.limits.props

@@ -33,13 +33,13 @@ is_linked k p q = is_own_link (declared_of k) (word_of k.dict p) (word_of k.dict
 abbrev pub is_edge : Metadata → ℕ → ℕ → Bool
 is_edge k p q = is_head_by (word_of k.dict p) (word_of k.dict q) || is_next_test k.dict k.declared p q || has_pair k.axioms p q
 
--- The edges are those.
+-- The edges of the taxonomy are those.
 pub record HasEdges (k : Metadata) (t : Taxonomy) : Type 0 where
   pub props : t.props ≡ k.limits.props
   pub edges : (p q : ℕ) → has_edge t p q ≡ is_edge k p q
 
--- Edges are links between the words that have numbers, and each such link is a chain of edges, so that both entail the same. A link to a
--- head and that of an axiom are edges themselves.
+-- Edges are links between the words that have numbers, and each such link is a chain of edges, so both entail the same. A link to a head
+-- and that of an axiom are edges themselves.
 pub record TellsLinks (k : Metadata) (t : Taxonomy) : Type 0 where
   pub props : t.props ≡ k.limits.props
   pub linked : (p q : ℕ) → has_edge t p q ≡ true → is_linked k p q ≡ true

@@ -25,7 +25,7 @@ pub record Metadata : Type 0 where
   pub taken : List Bool
   -- by file slot: the numbers of the words of the file's description
   pub ext : Ext
-  -- by block: it is to be written
+  -- by block: it must be written
   pub marks : List Bool
 
 abbrev pub metadata_of : Limits → Dict → List Bool → List AxiomSlot → Catalog → List Bool → Ext → List Bool → Metadata

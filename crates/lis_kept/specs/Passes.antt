@@ -9,7 +9,7 @@ use Rattle.lis_kept.specs.Areas.{is_marked}
 use Rattle.lis_kept.specs.Changes.{Marks}
 use Rattle.lis_model.specs.Sets.{has_number}
 
--- what memory keeps, but for the description in a slot, if one is given
+-- what memory keeps, without the description in a slot, if one is given
 abbrev pub ext_beside : Option ℕ → Ext → Ext
 ext_beside None e = e
 ext_beside (Some slot) e = record e { sets = slice_set e.sets slot [] }
@@ -22,7 +22,7 @@ abbrev pub is_of_pass : Bool → Option (List ℕ) → Bool
 is_of_pass valued None = false
 is_of_pass valued (Some word) = if valued then is_valued word else not (is_valued word)
 
--- the word of the number goes in the pass: nothing uses it but the slot
+-- the word of the number is forgotten in the pass: nothing uses it except the slot
 abbrev pub is_due : Option ℕ → Metadata → Bool → ℕ → Bool
 is_due slot k valued n = is_of_pass valued (word_of k.dict n) && not (is_used (beside slot k) n)
 

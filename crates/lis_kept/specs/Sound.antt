@@ -14,7 +14,7 @@ use Rattle.lis_model.specs.Image.{data_start}
 use Rattle.lis_kept.specs.Metadata.{Metadata, property_at}
 use Rattle.lis_kept.specs.Areas.{axiom_slots}
 
--- a record in the ranges of the layout of that version, whose words have numbers and whose blocks there are
+-- a record in the ranges of the layout of that version, whose words have numbers and whose blocks exist
 abbrev pub is_sound_record : ℕ → Dict → ℕ → FileRecord → Bool
 is_sound_record version dict blocks rec =
     is_record version rec && list_all (λ n. is_some (word_of dict n)) rec.tags && list_all (λ n. nat_lt n blocks) rec.blocks

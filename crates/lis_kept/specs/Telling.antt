@@ -1,4 +1,4 @@
--- The state that memory and data blocks tell.
+-- The state that memory and data blocks describe.
 use Rattle.std.specs.Prelude.{◌≡◌, ℕ, ◌<◌, Bool, true, false, ◌&&◌, ◌||◌, ◌==◌, is_some, Option, Some, None, List, [], ◌∷◌, map, filter, IsTrue}
 use Rattle.std.specs.Option.{option_to_list}
 use Rattle.std.specs.BTreeSet.{insert_key}
@@ -67,11 +67,11 @@ file_told limits dict at f = record {
   assigned = words_told dict f.rec.tags;
 }
 
--- all data blocks of a file, and its index block where it has one
+-- all data blocks of a file, and its index block if it has one
 abbrev pub blocks_told : Limits → (ℕ → List ℕ) → FileRecord → List ℕ
 blocks_told limits at rec = file_blocks (data_start limits) rec.blocks rec.size at
 
--- the index block, where the file has one, is in form
+-- the index block, if the file has one, is well formed
 abbrev pub HasIndex : Limits → (ℕ → List ℕ) → FileRecord → Type 0
 HasIndex limits at rec = IsIndexed (data_start limits) rec.blocks rec.size at
 
@@ -120,7 +120,7 @@ pub record IsFileBlock (k : Metadata) (at : ℕ → List ℕ) (data_block : ℕ)
   pub kept : Contains k.catalog.entries file
   pub has : has_number (blocks_told k.limits at file.rec) data_block ≡ true
 
--- Where blocks hold these bytes, what is kept tells the state: its words, axioms and files are those of the state, the numbers of each
+-- If blocks hold these bytes, what is kept describes the state: its words, axioms and files are those of the state, the numbers of each
 -- file are those of its description, and the taken blocks are those of the files, none of them used twice, by one file or by two.
 pub record Tells (k : Metadata) (at : ℕ → List ℕ) (s : State) : Type 0 where
   pub super : SpellsSuper s.limits (at 0)

@@ -16,7 +16,7 @@ abbrev pub test_by : Option (List ℕ) → Option Test
 test_by None = None
 test_by (Some word) = test_of word
 
--- the test that the word of a number is, where this is declared
+-- the test that the word of a number is, if the word is declared
 abbrev pub declared_test : Dict → List Bool → ℕ → Option Test
 declared_test dict declared n = if is_taken declared n then test_by (word_of dict n) else None
 
@@ -32,7 +32,7 @@ is_between dict declared p q = list_any (λ r. is_test_link dict declared p r &&
 unfoldable pub is_next_test : Dict → List Bool → ℕ → ℕ → Bool
 is_next_test dict declared p q = is_test_link dict declared p q && not (is_between dict declared p q)
 
--- To a test edges lead from stronger tests alone.
+-- Edges to a test lead from stronger tests alone.
 abbrev pub TestsAreOrdered : Dict → Taxonomy → Type 0
 TestsAreOrdered dict t =
     (p q : ℕ) → has_edge t p q ≡ true → is_some (test_by (word_of dict q)) ≡ true → are_weaker (test_by (word_of dict q)) (test_by (word_of dict p)) ≡ true
@@ -48,16 +48,16 @@ pub record IsNearest (side : Side) (dict : Dict) (declared : List Bool) (test : 
   pub past : is_past side (declared_test dict declared n) test ≡ true
   pub nearest : (r : ℕ) → is_past side (declared_test dict declared r) test ≡ true → is_past side (declared_test dict declared n) (declared_test dict declared r) ≡ false
 
--- the number of the nearest declared test on that side of a test, where there is one
+-- the number of the nearest declared test on that side of a test, if there is one
 abbrev pub IsNeighbour : Side → Dict → List Bool → Option Test → Option ℕ → Type 0
 IsNeighbour side dict declared test None = (r : ℕ) → is_past side (declared_test dict declared r) test ≡ false
 IsNeighbour side dict declared test (Some n) = IsNearest side dict declared test n
 
--- where there are both, the second one is a weaker test
+-- if both are given, the second one is a weaker test
 abbrev pub AreInOrder : Dict → List Bool → Option ℕ → Option ℕ → Type 0
 AreInOrder dict declared from to = IfSome from (λ p. IfSome to (λ q. is_test_link dict declared p q ≡ true))
 
--- with the edge from the one number to the other, where there are both
+-- with the edge from the one number to the other, if both are given
 pub record LinksPair (from to : Option ℕ) (t u : Taxonomy) : Type 0 where
   pub props : u.props ≡ t.props
   pub edges : (p q : ℕ) → has_edge u p q ≡ ((is_at from p && is_at to q) || has_edge t p q)
@@ -77,7 +77,7 @@ pub record AreNeighbours (dict : Dict) (declared : List Bool) (number : ℕ) (st
   pub above : IsNeighbour Stronger dict declared (declared_test dict declared number) stronger
   pub below : IsNeighbour Weaker dict declared (declared_test dict declared number) weaker
 
--- with edges to and from a number in place of the one between its neighbours
+-- with edges to and from a number instead of the one between its neighbours
 pub record InsertsTest (dict : Dict) (declared : List Bool) (number : ℕ) (t u : Taxonomy) : Type 0 where
   pub stronger : Option ℕ
   pub weaker : Option ℕ
@@ -86,7 +86,7 @@ pub record InsertsTest (dict : Dict) (declared : List Bool) (number : ℕ) (t u 
   pub edges : (p q : ℕ) → has_edge u p q
       ≡ ((is_at stronger p && (number == q)) || (((number == p) && is_at weaker q) || (not (is_at stronger p && is_at weaker q) && has_edge t p q)))
 
--- with the edge between the neighbours of a number in place of those to and from it
+-- with the edge between the neighbours of a number instead of those to and from it
 pub record RemovesTest (dict : Dict) (declared : List Bool) (number : ℕ) (t u : Taxonomy) : Type 0 where
   pub stronger : Option ℕ
   pub weaker : Option ℕ

@@ -1,4 +1,4 @@
--- A declared word that goes.
+-- Removing a declared word.
 use Rattle.std.specs.Prelude.{◌≡◌, ◌≢◌, ℕ, ◌==◌, ◌||◌, ◌&&◌, not, true, false, Bool, if◌then◌else◌, Some, None, is_some, List, slice_get, slice_set}
 use Rattle.std.specs.List.{list_any}
 use Rattle.lis_blockmap.specs.Bitmap.{is_taken}
@@ -17,8 +17,8 @@ use Rattle.lis_kept.specs.Changes.{Marks}
 use Rattle.lis_kept.specs.TestEdges.{test_by}
 use Rattle.lis_model.specs.Sets.{has_number}
 
--- It is declared and in use for nothing else: no description has it, no axiom names it, no file was given it, and it is no known word's
--- head.
+-- The word is declared and in use for nothing else: no description has it, no axiom names it, no file was assigned it, and it is no known
+-- word's head.
 pub record MayUndeclare (number : ℕ) (k : Metadata) : Type 0 where
   pub declared : is_taken k.declared number ≡ true
   pub had : is_had k.ext number ≡ false
@@ -52,6 +52,6 @@ is_right_of n (Pair left right) = right == n
 abbrev pub is_named_by : Dict → ℕ → AxiomSlot → Bool
 is_named_by dict n slot = is_left_of n slot || is_left_head_of dict n slot || is_right_of n slot
 
--- Some description has it, or an axiom names it. A test is in descriptions by sizes alone, and goes with its declaration.
+-- Some description has it, or an axiom names it. A test is in descriptions by sizes alone, and leaves them with its declaration.
 abbrev pub is_needed : Metadata → ℕ → Bool
 is_needed k n = (not (is_some (test_by (word_of k.dict n))) && is_had k.ext n) || list_any (is_named_by k.dict n) k.axioms

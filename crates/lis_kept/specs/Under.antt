@@ -8,7 +8,7 @@ use Rattle.lis_kept.specs.Changes.{Declares}
 use Rattle.lis_kept.specs.Linking.{is_filled, Links}
 use Rattle.lis_model.specs.Sets.{are_distinct}
 
--- axioms from one number to each of these, one after another
+-- axioms from one number to each of these, in sequence
 abbrev pub LinksEach : ℕ → List ℕ → Metadata → Metadata → Type 0
 LinksEach left [] p q = q ≡ p
 LinksEach left (right ∷ rights) p q = (mid : Metadata) × Links left right p mid × LinksEach left rights mid q

@@ -15,7 +15,7 @@ use lis_dict::Dict;
 use lis_fields::AxiomSlot;
 use lis_words::Word;
 
-// Whether a word comes behind the last one, where there is one.
+// Whether a word comes after the last one, if there is one.
 fn is_behind(last: Option<&Word>, word: &Word) -> bool
     ensures { result ≡ is_behind (option_map (λ w. w.now) last.entry) word.now }
 {
@@ -25,7 +25,7 @@ fn is_behind(last: Option<&Word>, word: &Word) -> bool
     }
 }
 
-// Whether a word comes before the next one, where there is one.
+// Whether a word comes before the next one, if there is one.
 fn is_before(word: &Word, next: &Option<Word>) -> bool
     ensures { result ≡ is_before word.now next.now }
 {
@@ -35,7 +35,7 @@ fn is_before(word: &Word, next: &Option<Word>) -> bool
     }
 }
 
-// The word right of the number in an axiom slot.
+// The right word of an axiom slot, if the number is that of its left word.
 fn right_of(dict: &Dict, slot: AxiomSlot, left: u16) -> Option<Word>
     requires { IsShort dict.now }
     ensures { result ≡ right_by dict.now left slot }
@@ -52,7 +52,7 @@ fn right_of(dict: &Dict, slot: AxiomSlot, left: u16) -> Option<Word>
     dict.word_of(to)
 }
 
-// Of the words right of the number, the first behind the last one.
+// Of the right words of axioms whose left word has this number, the first after the last one.
 fn first_right(dict: &Dict, axioms: &[AxiomSlot], left: u16, last: Option<&Word>) -> Option<Word>
     requires { IsShort dict.now }
     ensures { (word : List ℕ) → word_of dict.now left ≡ Some word
@@ -70,7 +70,7 @@ fn first_right(dict: &Dict, axioms: &[AxiomSlot], left: u16, last: Option<&Word>
 }
 
 impl Metadata {
-    /// Of the words to which axioms lead from a word, the first in byte order that comes behind the last one, where one is given.
+    /// Of the words to which axioms lead from a word, the first in byte order that comes after the last one, if one is given.
     pub fn axiom_behind(&self, left: &Word, last: Option<&Word>) -> Option<Word>
         ensures { result ≡ find (is_behind (option_map (λ w. w.now) last.entry)) (rights_of (axioms_of self.now) left.now) }
     {

@@ -56,7 +56,7 @@ fn mark_file(marks: &mut Flags, limits: &Limits, slot: u16)
 }
 
 impl Metadata {
-    /// Gives a file slot other numbers, those of its file's description.
+    /// Replaces the numbers of a file slot, which are those of its file's description.
     pub fn describe(&mut self, slot: u16, new: &[u16])
         requires slot { slot < self.old.limits.files }
         requires few { length new.now ≤ MAX_DESCRIPTION }
@@ -70,7 +70,7 @@ impl Metadata {
         self.ext.settle();
     }
 
-    /// Takes the record out of its slot, and answers it. Its blocks stay taken.
+    /// Removes the record from its slot, and returns it. Its blocks stay taken.
     pub fn drop_record(&mut self, slot: u16) -> FileRec
         requires there { IsSome (rec_at self.old.catalog slot) }
         ensures drops { Drops slot result self.old self.new }

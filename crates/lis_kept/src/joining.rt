@@ -1,4 +1,4 @@
-//! The metadata of an image, of its fields.
+//! The metadata of an image, made of its fields.
 
 ghost use Rattle.std.specs.Prelude.{◌≡◌};
 ghost use Rattle.lis_kept.specs.Metadata.{metadata_of};
@@ -28,7 +28,7 @@ pub struct Fields {
     pub catalog: Catalog,
     pub map: BlockMap,
     pub ext: Ext,
-    /// By block: it is to be written.
+    /// By block: it must be written.
     pub marks: Flags,
 }
 

@@ -112,7 +112,7 @@ impl Metadata {
         mark_axiom(&mut self.marks, &self.limits, slot);
     }
 
-    /// Takes the axiom that leads from the word of one number to that of another away.
+    /// Removes the axiom that leads from the word of one number to that of another.
     pub fn unlink(&mut self, left: u16, right: u16)
         requires { MayUnlink left right self.old }
         ensures unlinks { Unlinks left right self.old self.new }

@@ -37,7 +37,7 @@ pub struct Metadata {
     pub(crate) catalog: Catalog,
     pub(crate) map: BlockMap,
     pub(crate) ext: Ext,
-    // By block: it is to be written.
+    // By block: it must be written.
     pub(crate) marks: Flags,
 }
 
@@ -85,7 +85,7 @@ impl Metadata {
         }
     }
 
-    /// Takes all marks away, as what is marked was written.
+    /// Removes all marks, since what is marked was written.
     pub fn settle(&mut self)
         ensures settled { self.new ≡ record self.old { marks = replicate (length self.old.marks) false } }
         ensures sound { AreSound self.new }
@@ -93,7 +93,7 @@ impl Metadata {
         self.marks.fill(false);
     }
 
-    // Whether a block is to be written.
+    // Whether a block must be written.
     fn is_marked(&self, n: u32) -> bool
         requires { n < length self.now.marks }
         ensures { result ≡ is_marked self.now n }

@@ -56,7 +56,7 @@ impl Metadata {
         self.dict.word_at(k)
     }
 
-    /// The places in byte order between which all tests stand: from the first one on, and before the second one.
+    /// The indexes in byte order between which all tests are: from the first one on, and before the second one.
     pub fn tests(&self) -> (u32, u32)
         ensures rise { result.0 ≤ result.1 }
         ensures within { result.1 ≤ length self.now.dict.entries }
@@ -112,7 +112,7 @@ impl Metadata {
         self.map.free()
     }
 
-    /// How many of the blocks that the slot of a file numbers are taken: all of them, where the disk keeps the image that memory tells.
+    /// How many of the blocks that the slot of a file numbers are taken: all of them, if the disk keeps the image that memory describes.
     pub fn taken_blocks(&self, slot: u16) -> usize
         requires { IsSome (rec_at self.now.catalog slot) }
         ensures taken { (rec : FileRecord) → rec_at self.now.catalog slot ≡ Some rec → result ≡ length (filter (is_taken self.now.taken) rec.blocks) }

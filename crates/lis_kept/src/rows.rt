@@ -22,7 +22,7 @@ fn write_row(ext: &Ext, number: u32, row: &mut [u8])
 // More rows than any image has.
 const MAX_ROWS: u32 = 2_000_000;
 
-/// Writes so many rows, from that of a number on.
+/// Writes `count` rows, from that of a number on.
 pub fn write_rows(ext: &Ext, first: u32, width: usize, count: u32, block: &mut [u8])
     requires width { 8 * width ≡ length ext.now.sets }
     requires whole { width * count ≡ BLOCK_LEN }

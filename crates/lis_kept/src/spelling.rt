@@ -76,7 +76,7 @@ fn copied_numbers(numbers: &ArrayVec<u16, 16>) -> ArrayVec<u16, 16>
     copied
 }
 
-// The same record, without memory taken.
+// The same record, without an allocation.
 fn copied_record(rec: &FileRec) -> FileRec
     ensures { result ≡ rec.now }
 {

@@ -47,7 +47,7 @@ fn is_past(side: Side, q: Test, p: Test) -> bool
     }
 }
 
-// The test that the word of a number is, where this is declared.
+// The test that the word of a number is, if the word is declared.
 fn declared_test(dict: &Dict, declared: &Flags, number: u32) -> Option<Test>
     requires long { number < length declared.now }
     requires small { number < NUMBERS }
@@ -60,7 +60,7 @@ fn declared_test(dict: &Dict, declared: &Flags, number: u32) -> Option<Test>
     test_of(&word)
 }
 
-// The declared test of a number, where it is on that side of a test.
+// The declared test of a number, if it is on that side of a test.
 fn test_past(dict: &Dict, declared: &Flags, number: u32, test: Test, side: Side) -> Option<Test>
     requires long { number < length declared.now }
     requires small { number < NUMBERS }
@@ -115,7 +115,7 @@ fn nearest(dict: &Dict, declared: &Flags, props: u32, test: Test, side: Side) ->
     number_of(nearest)
 }
 
-// The number of the nearest declared test on that side of a number's, where this has one.
+// The number of the nearest declared test on that side of a number's test, if the number has one.
 fn neighbour(dict: &Dict, declared: &Flags, props: u32, number: u32, side: Side) -> Option<u32>
     requires few { props ≤ MAX_PROPS }
     requires number { number < props }
@@ -127,7 +127,7 @@ fn neighbour(dict: &Dict, declared: &Flags, props: u32, number: u32, side: Side)
     nearest(dict, declared, props, test, side)
 }
 
-// Adds the edge from a test to a weaker one, where there are both. It may be there.
+// Adds the edge from a test to a weaker one, if both are given. The edge may be there already.
 fn link_pair(
     dict: &Dict,
     declared: &Flags,
@@ -153,7 +153,7 @@ fn link_pair(
     let _ = taxonomy.add(from, to);
 }
 
-// Takes the edge from a number to another away, where there are both. It may be missing.
+// Removes the edge from a number to another, if both are given. The edge may be missing.
 fn unlink_pair(dict: &Dict, taxonomy: &mut Taxonomy, from: Option<u32>, to: Option<u32>)
     requires from { IfSome from (λ p. p < taxonomy.old.props) }
     requires to { IfSome to (λ q. q < taxonomy.old.props) }
@@ -171,7 +171,7 @@ fn unlink_pair(dict: &Dict, taxonomy: &mut Taxonomy, from: Option<u32>, to: Opti
     let _ = taxonomy.remove(from, to);
 }
 
-/// Adds the edge from a number to that of the next weaker test, where its word is a declared test and there is a weaker one.
+/// Adds the edge from a number to that of the next weaker test, if its word is a declared test and there is a weaker one.
 pub fn link_next(dict: &Dict, declared: &Flags, taxonomy: &mut Taxonomy, props: u32, number: u32)
     requires props { props ≡ taxonomy.old.props }
     requires few { props ≤ MAX_PROPS }
@@ -188,7 +188,7 @@ pub fn link_next(dict: &Dict, declared: &Flags, taxonomy: &mut Taxonomy, props: 
     link_pair(dict, declared, taxonomy, Some(number), weaker);
 }
 
-/// Puts a number between those of the next tests on both sides, where its word is a declared test.
+/// Puts a number between those of the next tests on both sides, if its word is a declared test.
 pub(crate) fn insert_test(
     dict: &Dict,
     declared: &Flags,
@@ -211,7 +211,7 @@ pub(crate) fn insert_test(
     link_pair(dict, declared, taxonomy, stronger, Some(number));
 }
 
-/// Takes a number out from between those of the next tests on both sides, where its word is a declared test.
+/// Removes a number from between those of the next tests on both sides, if its word is a declared test.
 pub(crate) fn remove_test(
     dict: &Dict,
     declared: &Flags,

@@ -75,7 +75,7 @@ fn link_head(taxonomy: &mut Taxonomy, number: u16, head: Option<u16>)
     };
 }
 
-// Takes the edge from the number of a word to that of its head away, if it has one.
+// Removes the edge from the number of a word to that of its head, if it has one.
 fn unlink_head(taxonomy: &mut Taxonomy, number: u16, head: Option<u16>)
     requires number { number < taxonomy.old.props }
     requires head { IfSome head (λ h. h < taxonomy.old.props) }
@@ -98,7 +98,7 @@ fn is_had(ext: &Ext, number: u16) -> bool
     ext.is_had(u32::from(number))
 }
 
-// Whether some file's description has a number, but that in a slot, if one is given.
+// Whether some file's description has a number, not counting that in a slot, if one is given.
 fn is_had_beside(ext: &Ext, slot: Option<u16>, number: u16) -> bool
     requires { number < ext.now.props }
     ensures { result ≡ is_had (ext_beside slot ext.now) number }
@@ -168,7 +168,7 @@ impl Metadata {
         self.declare_word(word);
     }
 
-    // The same, and answers the number.
+    // The same, and returns the number.
     pub(crate) fn declare_word(&mut self, word: &Word) -> u16
         requires form { IsTrue (is_declarable word.now) }
         requires new { number_of self.old.dict word.now ≡ None }
@@ -189,7 +189,7 @@ impl Metadata {
         number
     }
 
-    /// The number of a word that is known and not declared: the one that it has, or else a free one that it gets.
+    /// The number of a word that is known and not declared: the one that it has, or otherwise a free one that it gets.
     pub fn learn(&mut self, word: &Word) -> u16
         requires form { number_of self.old.dict word.now ≡ None → IsTrue (is_undeclared word.now) }
         requires headed { number_of self.old.dict word.now ≡ None → IsTrue (is_valued word.now)
@@ -210,7 +210,7 @@ impl Metadata {
         number
     }
 
-    // Forgets the word of a number that may go, if it has one.
+    // Forgets the word of a number, if it has one. The word may be forgotten.
     fn forget(&mut self, number: u16)
         requires { IsSome (word_of self.old.dict number) → MayGo number self.old }
         ensures forgets { ForgetsWhere (λ n. number == n) 1 self.old self.new }
@@ -231,19 +231,19 @@ impl Metadata {
         ensures forgets { Forgets numbers.now self.old self.new }
         ensures sound { AreSound self.new }
     {
-        // The head of a known word keeps its number, so valued words go before heads.
+        // The head of a known word keeps its number, so valued words are forgotten before heads.
         self.forget_due(numbers, true, None);
         self.forget_due(numbers, false, None);
     }
 
-    // Forgets the words of those numbers that nothing uses, but the description in a slot, if one is given: valued words, or
-    // the others.
+    // Forgets the words of those of the numbers that nothing uses except the description in a slot, if one is given: valued words, or the
+    // others.
     fn forget_due(&mut self, numbers: &[u16], valued: bool, slot: Option<u16>)
         requires { (n : ℕ) → is_due slot self.old valued n ≡ true → MayGo n self.old }
         ensures forgets { ForgetsDue slot valued numbers.now self.old self.new }
         ensures sound { AreSound self.new }
     {
-        // Without numbers memory is read for nothing else, and is in form all the same.
+        // Without numbers nothing else reads memory, and it must be sound all the same.
         let _ = &self.limits;
         for number in numbers {
             if self.is_due(*number, valued, slot) {
@@ -252,7 +252,7 @@ impl Metadata {
         }
     }
 
-    // Whether nothing uses a number, but the description in a slot, if one is given, and its word is valued, or is not.
+    // Whether nothing uses a number except the description in a slot, if one is given, and its word is valued, or is not.
     fn is_due(&self, number: u16, valued: bool, slot: Option<u16>) -> bool
         ensures { result ≡ is_due slot self.now valued number }
     {
@@ -265,7 +265,7 @@ impl Metadata {
         !self.is_used_beside(slot, number)
     }
 
-    // Whether a number is in use, but for the description in a slot, if one is given.
+    // Whether a number is in use, not counting the description in a slot, if one is given.
     pub(crate) fn is_used_beside(&self, slot: Option<u16>, number: u16) -> bool
         requires { IsSome (word_of self.now.dict number) }
         ensures { result ≡ is_used (beside slot self.now) number }

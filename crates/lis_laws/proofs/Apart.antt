@@ -1,4 +1,4 @@
--- Plain words, heads, valued words and tests are apart.
+-- No word is two of these: a plain word, a head, a valued word, a test.
 use Rattle.std.proofs.Common.{◌≡◌, ◌⊎◌, ℕ, ◌<◌, true, false, not, ◌&&◌, ◌||◌, List, length, refl, subst, inl, inr, arith, eqb-true}
 use Rattle.std.specs.List.{list_all, list_any}
 use Rattle.std.proofs.lemmas.Bool.{and_parts, and_from, or_cases, or_left, or_right, not-true, not_from_false, both_ways, false_from_ne_true, ltb-true}

@@ -1,4 +1,4 @@
--- What one more axiom adds, and what one axiom less leaves.
+-- What one more axiom adds, and what one fewer leaves.
 use Rattle.std.proofs.Common.{◌≡◌, ◌⊎◌, ◌↔◌, ℕ, List, ◌∷◌, subst, inl, inr}
 use Rattle.lis_graph.proofs.Members.{Among, among_insert_key, insert_key_old, insert_key_new}
 use Rattle.lis_graph.proofs.Members.{contains_from_among}

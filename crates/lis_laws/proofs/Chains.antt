@@ -1,4 +1,4 @@
--- The laws on chains of links, at words: what a word leads to by itself is an order, what it entails, and axioms that lead in no circle.
+-- The laws on chains of links, at words: the own links of words are an order, what a word entails, and axioms without a cycle.
 use Rattle.std.proofs.Common.{◌≡◌, ◌⊎◌, ℕ, Bool, true, false, not, ◌&&◌, cond, Option, Some, None, is_some, List, [], ◌∷◌, length, filter, Decides, refl, sym, ap, subst, ◌∙◌, nat_lt, inl, inr, arith}
 use Rattle.std.proofs.lemmas.Bool.{both_ways, or_right, lt-ltb, ltb-true}
 use Rattle.std.specs.List.{list_any, list_all}
@@ -101,7 +101,7 @@ weaker_joined declared p q r w v = record { from = w.from; to = v.to; weaker = w
 pub not_weaker_itself : (declared : List (List ℕ)) (p : List ℕ) → IsWeakerIn declared p p → ⊥
 not_weaker_itself declared p w = weaker_apart (test_of p) w.weaker
 
--- ---- what a word leads to by itself
+-- ---- the own links of a word
 pub data OwnLink (declared : List (List ℕ)) (p q : List ℕ) : Type 0 where
   Head : is_valued p ≡ true → head_bytes p ≡ q → OwnLink declared p q
   Weaker : IsWeakerIn declared p q → OwnLink declared p q
@@ -195,7 +195,7 @@ entails_apart declared = graph.entails_apart same_word word_cmp (links declared)
 pub entails_through : (declared : List (List ℕ)) (pair : List ℕ × List ℕ) (axioms : Pairs) (p q : List ℕ) → Entails declared axioms p pair.0 → Entails declared axioms pair.1 q → Entails declared (pair ∷ axioms) p q
 entails_through declared = graph.entails_through same_word word_cmp (links declared) same_word_decides word_exact (links_ordered declared)
 
--- ---- axioms that lead in no circle
+-- ---- axioms without a cycle
 pub acyclic_decides : (declared : List (List ℕ)) (axioms : Pairs) → Decides (is_acyclic declared axioms) (Acyclic declared axioms)
 acyclic_decides declared = graph.acyclic_decides same_word word_cmp (links declared) same_word_decides word_exact (links_ordered declared)
 

@@ -111,7 +111,7 @@ in_front declared pair axioms words = by (has_word (all_up declared axioms words
         same_words (all_up declared (pair ∷ axioms) words) (all_up declared axioms words) (sorted_all_up declared (pair ∷ axioms) words) (sorted_all_up declared axioms words)
         (λ q m. no_more e q (new_word declared pair axioms words q m)) (old_word declared pair axioms words)
 
--- and in its place among them
+-- and at its position among them
 pub with_one_axiom : (declared : List (List ℕ)) (axioms : Pairs) (pair : List ℕ × List ℕ) (words : List (List ℕ))
     → all_up declared (with_axiom axioms pair) words
     ≡ cond (has_word (all_up declared axioms words) pair.0) (with_words (all_up declared axioms words) (up declared axioms pair.1)) (all_up declared axioms words)

@@ -1,4 +1,4 @@
--- Tests of all members, rising lists and counts, when members come and go.
+-- Tests of all members, rising lists and counts, when members are added and removed.
 use Rattle.std.proofs.Common.{◌≡◌, ◌⊎◌, ℕ, ◌+◌, ◌≤◌, Bool, true, false, cond, List, [], ◌∷◌, length, map, filter, refl, sym, ap, ◌∙◌, inl, inr, arith}
 use Rattle.std.specs.Prelude.{sum}
 use Rattle.std.specs.declared.cmp.Ordering.{Ordering}
@@ -80,7 +80,7 @@ module _ {K : Type 0} where
       by true more = kept more
       by false more = left_out more
 
-  -- and less, by a member that is left out
+  -- and fewer, if a member is left out
   pub filter_drops : (keep : K → Bool) (xs : List K) (x : K) → Among xs x → keep x ≡ false → length (filter keep xs) + 1 ≤ length xs
   filter_drops keep [] x m e = absurd m
   filter_drops keep (y ∷ ys) x (inl same) e = let gone = ap keep same ∙ e in rw gone (omega (arith, filter_le keep ys))

@@ -1,4 +1,4 @@
--- The words that are derived from a file are built in, and 48 at most.
+-- The words that are derived from a file are built in, and at most 48.
 use Rattle.std.proofs.Common.{◌≡◌, ◌⊎◌, ℕ, ◌≤◌, ◌==◌, nat_lt, Bool, true, false, ◌&&◌, ◌||◌, cond, Option, Some, None, List, [], ◌∷◌, ◌++◌, length, filter, codes, refl, sym, ap, subst, ◌∙◌, inl, inr, arith, eqb-true, append-nil, length-append}
 use Rattle.std.specs.List.{flat_map, list_all}
 use Rattle.std.specs.Str.{str_to_ascii_lowercase}

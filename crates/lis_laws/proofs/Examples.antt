@@ -1,4 +1,5 @@
--- The laws at small states: a listing and a route, what steps touch, states that are well formed, and axioms in a circle, where the laws fail.
+-- The laws at small states: a listing and a route, what steps touch, states that are well formed, and axioms in a cycle, for which the laws
+-- fail.
 use Rattle.std.proofs.Common.{◌≡◌, ℕ, true, false, List, [], ◌∷◌, codes, refl, arith}
 use Rattle.lis_grammar.specs.Formula.Formula.{Has, SizeAtLeast}
 use Rattle.lis_model.specs.declared.limits.Limits.{Limits}
@@ -21,7 +22,7 @@ abbrev file : List ℕ → List (List ℕ) → File
 file name assigned = record { name = name; bytes = []; assigned = assigned }
 
 -- ---- a state that is well formed
--- rock and jazz are music, and large files are marked so
+-- rock and jazz entail music, and large files are marked
 abbrev tree : State
 tree = record {
   limits = small;
@@ -97,7 +98,7 @@ s1_goes : asked (Rm (codes "s1")) ≡ both_kinds (codes "music" ∷ codes "rock"
 unfolding step
 s1_goes = refl
 
--- it is in use, so that it is refused
+-- the word is in use, so the command is refused
 rock_stays : asked (Rmdir (codes "rock")) ≡ no_words
 unfolding step
 rock_stays = refl
@@ -141,7 +142,7 @@ at_least_2_shows = refl
 b_route : route (table tested) [] (entry_of tested.declared tested.axioms (sized (codes "b") (codes "xx"))) ≡ codes "size:small" ∷ codes "size<3" ∷ []
 b_route = refl
 
--- ---- axioms in a circle: each of the two words hides the other, and no increment covers x
+-- ---- axioms in a cycle: each of the two words hides the other, and no increment covers x
 abbrev circle : State
 circle = record {
   limits = small;
@@ -159,7 +160,7 @@ circle_shows = refl
 circle_keeps : locals (table circle) [] ≡ entry_of circle.declared circle.axioms (file (codes "y") []) ∷ []
 circle_keeps = refl
 
--- ---- payloads: of one that is too large for a file its size alone is kept
+-- ---- payloads: of one that is too large for a file only the size is kept
 whole_payload : is_payload (record { size = 3; bytes = codes "abc" }) ≡ true
 whole_payload = refl
 

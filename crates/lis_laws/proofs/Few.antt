@@ -27,14 +27,14 @@ use Rattle.lis_laws.proofs.Reached.{described_link}
 use Rattle.lis_laws.proofs.Touched.{one_of_name, declares_touches, brought_is_test, undeclares_touches, adds_axiom_touches, removes_axiom_touches, adds_file_touches, removes_file_touches, replaces_file_touches}
 use Rattle.lis_laws.proofs.Steps.{Replaces}
 
--- ---- what some file has is few
+-- ---- a file has few words
 abbrev AreFew : State → Type 0
 AreFew s = list_all (λ (file : File). nat_le (length (description s file)) 128) s.files ≡ true
 
 few_of : (s : State) → AreFew s → (file : File) → Among s.files file → length (description s file) ≤ 128
 few_of s few file m = leb-true _ _ (all_among (λ (f : File). nat_le (length (description s f)) 128) s.files file few m)
 
--- words that a file has, where it has this one
+-- words that a file has, if it has this one
 where_few : (s : State) (word : List ℕ) (words : List (List ℕ)) → ((file : File) → Among s.files file → Among (description s file) word → length words ≤ 128) → length (where_held s word words) ≤ 128
 where_few s word words few = by (is_held s word) refl
   where
@@ -60,7 +60,7 @@ heads_le word = by (is_valued word)
     by false = omega arith
 
 -- ---- changes
--- these words at most are touched, and they are few
+-- at most these words are touched, and they are few
 pub record IsFew (s t : State) (words : TouchedWords) : Type 0 where
   pub touches : Touches s t words.changed words.learned
   pub few_changed : length words.changed ≤ 256
@@ -69,7 +69,7 @@ pub record IsFew (s t : State) (words : TouchedWords) : Type 0 where
 pub touches_none : (s : State) → IsFew s s no_words
 touches_none s = record { touches = (λ w none. refl, λ w none. refl); few_changed = omega arith; few_learned = omega arith }
 
--- a new word is had exactly where it is a test that some file meets
+-- some file has a new word exactly if it is a test that some file meets
 held_is_met : (s : State) → WellFormed s → (word : List ℕ) (words : List (List ℕ)) → WordFits s word words → is_held (declared_under s word words) word ≡ is_met_there (declared_under s word words) word
 held_is_met s formed word words fits = same_tests (is_held t word) (is_met_there t word) to from
   where
@@ -112,7 +112,7 @@ declares_few s formed word words fits = by (is_met_there t word) (held_is_met s 
 pub undeclares_few : (s : State) → WellFormed s → (word : List ℕ) → not (is_in_use s word) ≡ true → IsFew s (undeclared s word) (both_kinds (word ∷ []))
 undeclares_few s formed word unused = record { touches = undeclares_touches s formed word unused; few_changed = omega arith; few_learned = omega arith }
 
--- what an axiom of a state adds to the others, where some file has its left side
+-- what an axiom of a state adds to the others, if some file has its left side
 right_few : (s t : State) → IsWithin s t → AreFew t → (l r : List ℕ) → Among t.axioms (l, r) → length (where_held s l (up s.declared s.axioms r)) ≤ 128
 right_few s t within few l r there = where_few s l (up s.declared s.axioms r) (λ file m has. at file (within.files file m) (described_within s t within file l has))
   where

@@ -1,4 +1,4 @@
--- What keeps a state well formed: words, axioms and files that come and go.
+-- What keeps a state well formed: words, axioms and files that are added and removed.
 use Rattle.std.proofs.Common.{◌≡◌, ◌⊎◌, ℕ, nat_le, Bool, true, false, not, ◌&&◌, ◌||◌, List, [], ◌∷◌, ◌++◌, length, map, filter, refl, sym, subst, inl, inr, arith}
 use Rattle.std.specs.Cmp.{IsTotalOrder}
 use Rattle.std.specs.List.{flat_map, list_all, fold}
@@ -29,7 +29,7 @@ pub file_order : IsTotalOrder file_cmp
 file_order = on_total (λ (file : File). file.name) word_order
 
 -- ---- tests by the declared words
--- what holds by some declared words holds by others that have the words it asks for
+-- what holds by some declared words holds by others that have the words it needs
 both_weaker : (a b c : Bool) → (b ≡ true → c ≡ true) → (a && b) ≡ true → (a && c) ≡ true
 both_weaker a b c more h = let parts = and_parts _ _ h in and_from _ _ parts.0 (more parts.1)
 
@@ -92,7 +92,7 @@ under_all test word axioms words old new e m = by (among_under word axioms words
     by (inl there) = old e there
     by (inr found) = subst (λ (k : List ℕ × List ℕ). test k ≡ true) found.2 (new found.0 found.1)
 
--- from a right side only right sides are reached, and the word is none
+-- from a right side only right sides are reached, and the word is not one
 under_acyclic : (s : State) (word : List ℕ) → is_right s word ≡ false → (axioms : Pairs) (words : List (List ℕ)) → ((e : List ℕ × List ℕ) → Among axioms e → is_right s e.1 ≡ true)
     → ((q : List ℕ) → Among words q → is_right s q ≡ true) → Acyclic s.declared axioms → Acyclic s.declared (under word axioms words)
 under_acyclic s word new axioms [] rights over none = none
@@ -175,7 +175,7 @@ not_among words word w none m = false_from_ne_true _ (λ same. found (subst (λ 
     found : Among words word → ⊥
     found there = let has = has_word_from_among words word there in cc
 
--- the word is on no side of an axiom, no head of a left side, and no file is given it or a word of which it is the head
+-- the word is on no side of an axiom, is no head of a left side, and is not assigned to a file, nor is a word of which it is the head
 record IsUnused (s : State) (word : List ℕ) : Type 0 where
   assigned : (file : File) → Among s.files file → (w : List ℕ) → Among file.assigned w → same_word w word ≡ false
   assigned_head : (file : File) → Among s.files file → (w : List ℕ) → Among file.assigned w → is_valued w ≡ true → same_word (head_bytes w) word ≡ false

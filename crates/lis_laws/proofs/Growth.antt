@@ -1,4 +1,4 @@
--- Which words become known when something comes into a state.
+-- Which words become known when something is added to a state.
 use Rattle.std.proofs.Common.{◌≡◌, ◌⊎◌, ℕ, true, false, ◌&&◌, List, ◌∷◌, sym, ap, subst, ◌∙◌, inl, inr}
 use Rattle.std.specs.List.{list_all}
 use Rattle.std.proofs.lemmas.Bool.{both_ways}

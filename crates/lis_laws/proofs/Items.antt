@@ -1,4 +1,4 @@
--- The words, names and payload of every item of an input are in form.
+-- The words, names and payload of every item of an input are well formed.
 use Rattle.std.proofs.Common.{◌≡◌, ◌==◌, ℕ, zero, suc, Bool, true, false, ◌&&◌, cond, Option, Some, None, Ok, Err, List, [], ◌∷◌, ◌++◌, length, take, drop, nat_lt, nat_le, refl, ◌∙◌, codes, arith, eq-eqb}
 use Rattle.std.specs.Option.{option_to_list}
 use Rattle.std.specs.List.{list_all, list_any}
@@ -14,12 +14,12 @@ use Rattle.lis_model.specs.Script.{bad_line, one_word_form, two_words_form, any_
 use Rattle.lis_laws.specs.Steps.{is_payload, is_formed}
 use Rattle.lis_words.specs.Bytes.{is_feed}
 
--- a choice of two items in form is one
+-- a choice of two well-formed items is one
 chosen : (b : Bool) (x y : Item) → is_formed x ≡ true → is_formed y ≡ true → is_formed (cond b x y) ≡ true
 chosen true x y h k = h
 chosen false x y h k = k
 
--- an item that is there where its words are in form
+-- an item that comes only if its words are well formed
 tested : (b : Bool) (x : Item) → (b ≡ true → is_formed x ≡ true) → is_formed (cond b x bad_line) ≡ true
 tested true x h = h refl
 tested false x h = refl

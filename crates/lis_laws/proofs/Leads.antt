@@ -1,5 +1,5 @@
--- Where chains lead, when the right sides of axioms are plain: on from a plain word by axioms alone, to no valued word, and to a test from stronger tests alone. So
--- axioms lead in a circle or not, whatever words are declared.
+-- Where chains lead, if the right sides of axioms are plain: from a plain word on by axioms alone, to no valued word, and to a test from
+-- stronger tests alone. So whether axioms make a cycle does not depend on which words are declared.
 use Rattle.std.proofs.Common.{◌≡◌, ◌⊎◌, ℕ, zero, suc, Bool, true, false, List, refl, sym, subst, ◌∙◌, inl, inr}
 use Rattle.std.proofs.lemmas.Bool.{both_ways}
 use Rattle.lis_graph.specs.Graph.{Linked, Chain}
@@ -11,7 +11,7 @@ use Rattle.lis_laws.proofs.Chains.{Pairs, OwnLink, own_link, IsWeakerIn, weaker_
 use Rattle.lis_laws.proofs.Chains.OwnLink.{Head, Weaker}
 use Rattle.lis_laws.proofs.Apart.{plain_not_valued, test_not_valued}
 
--- a plain word leads to nothing by itself
+-- a plain word has no own links
 pub plain_ends : (declared : List (List ℕ)) (p r : List ℕ) → is_plain_word p ≡ true → OwnLink declared p r → ⊥
 plain_ends declared p r plain (Head valued is) = both_ways (is_valued p) (plain_not_valued p plain) valued
 plain_ends declared p r plain (Weaker w) = both_ways (is_plain_word p) (test_not_plain p (weaker_tests_are declared p r w).0) plain
@@ -28,7 +28,7 @@ chain_last declared axioms (suc n) p q c =
     let rest = chain_last declared axioms n c.0 q c.2 in
     (rest.0, (c.0, c.1, rest.1), rest.2)
 
--- where all declared words are such that none is valued, and right sides are declared, declared words lead to declared words alone
+-- if no declared word is valued, and right sides are declared, declared words lead to declared words alone
 pub declared_leads : (declared : List (List ℕ)) (axioms : Pairs) → ((w : List ℕ) → Among declared w → is_valued w ≡ false) → ((e : List ℕ × List ℕ) → Among axioms e → Among declared e.1)
     → (n : ℕ) (p q : List ℕ) → Among declared p → Chain (links declared) axioms n p q → Among declared q
 declared_leads declared axioms none rights zero p q m c = subst (λ (k : List ℕ). Among declared k) c m

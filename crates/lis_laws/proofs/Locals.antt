@@ -1,4 +1,4 @@
--- A file has a candidate among its words exactly where it has an increment.
+-- A file has a candidate among its words exactly if it has an increment.
 use Rattle.std.proofs.Common.{◌≡◌, ◌⊎◌, ◌↔◌, ℕ, Bool, true, false, not, ◌&&◌, List, filter, refl, sym, ap, subst, ◌∙◌, inl, inr}
 use Rattle.std.specs.List.{list_any, Contains}
 use Rattle.std.proofs.lemmas.Bool.{and_parts, and_from, not-true, not_from_false, false_from_ne_true}
@@ -89,7 +89,7 @@ candidate_known t sound place p h =
     let found = among_from_any (λ (file : Entry). has_word file.words p) (extension t place) (and_parts _ _ h).0 in
     sound.in_known found.0 (in_table t place found.0 found.1) p (among_from_has_word found.0.words p found.2)
 
--- no candidate covers a file exactly where no increment does
+-- no candidate covers a file exactly if no increment does
 pub local_is : (t : Table) → Sound t → (place : List Formula) (file : Entry) → Among (extension t place) file
     → is_local (extension t place) file ≡ is_uncovered (increments t place) file
 local_is t sound place file m = ap (λ b. not b) (same_tests _ _ to from)

@@ -15,7 +15,7 @@ use Rattle.lis_model.specs.Step.{Situation, is_here}
 use Rattle.lis_laws.proofs.Members.{word_exact, same_word_decides}
 
 module _ {K : Type 0} (cmp : K → K → Ordering) where
-  -- what equals no member is put in
+  -- what equals no member is inserted
   insert_key_there : (xs : List K) (k : K) → ((x : K) → Among xs x → cmp k x ≡ Equal → ⊥) → Among (insert_key cmp xs k) k
   insert_key_there [] k other = inl refl
   insert_key_there (y ∷ ys) k other = by (cmp k y) refl (insert_key_there ys k (λ x m. other x (inr m)))
@@ -29,7 +29,7 @@ module _ {K : Type 0} (cmp : K → K → Ordering) where
 pub named : (files : List File) (file : File) (name : List ℕ) → Among files file → file.name ≡ name → has_name files name ≡ true
 named files file name m same = any_from_among (λ (f : File). same_word f.name name) files file m ((same_word_decides file.name name).1 same)
 
--- a file of a new name is put in
+-- a file of a new name is inserted
 pub file_there : (s : State) (file : File) → has_name s.files file.name ≡ false → Among (file_added s file).files file
 file_there s file new = insert_key_there file_cmp s.files file apart
   where
@@ -65,7 +65,7 @@ here_named now name h = by (among_from_any (λ (e : Entry). same_word e.name nam
     by found =
         file found.0 found.2 (among_map (entry_of now.state.declared now.state.axioms) now.state.files found.0 (among_filter (holds_all now.place) (table now.state).files found.0 found.1).0)
 
--- ---- a file taken out
+-- ---- a file removed
 pub still_free : (s : State) (name other : List ℕ) → has_name s.files other ≡ false → has_name (file_removed s name).files other ≡ false
 still_free s name other free = false_from_ne_true (has_name (file_removed s name).files other) taken
   where

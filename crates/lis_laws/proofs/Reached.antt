@@ -25,13 +25,13 @@ module _ (declared : List (List ℕ)) (axioms : Pairs) (P : List ℕ → Type 0)
   chain_keeps zero p q at c = subst P c at
   chain_keeps (suc n) p q at c = chain_keeps n c.0 q (link p c.0 at (link_cases declared axioms p c.0 c.1)) c.2
 
-  -- what holds of some words, and passes every link, holds of all that they entail
+  -- what holds of some words, and is kept by every link, holds of all that they entail
   pub all_up_keeps : (words : List (List ℕ)) → ((w : List ℕ) → Among words w → P w) → (w : List ℕ) → Among (all_up declared axioms words) w → P w
   all_up_keeps words own w has =
       let source = entailing declared axioms words w has in
       let chain = entails_from_up declared axioms source.0 w source.2 in
       chain_keeps chain.0 source.0 w (own source.0 source.1) chain.1
 
-  -- what holds of each word that a file has by itself holds of all its words
+  -- what holds of each of a file's own words holds of all its words
   pub described_keeps : (file : File) → ((w : List ℕ) → OwnWord declared file w → P w) → (w : List ℕ) → Among (file_words declared axioms file) w → P w
   described_keeps file own = all_up_keeps (own_words declared file) (λ w m. own w (own_word declared file w m))

@@ -1,4 +1,4 @@
--- What each step keeps: its reply has a byte, the limits stay, and so does the place but for `cd`; and commands in other words.
+-- What each step keeps: its reply has a byte, the limits stay, and so does the place, except for `cd`. And commands by other definitions.
 use Rattle.std.proofs.Common.{◌≡◌, ℕ, ◌<◌, Bool, true, false, not, cond, List, [], ◌∷◌, ◌++◌, length, codes, refl, ap, ◌∙◌, arith, append-nil, length-append}
 use Rattle.std.specs.List.{list_all, flat_map}
 use Rattle.lis_words.specs.Words.{has_word}
@@ -118,7 +118,7 @@ module _ {P I : Type 0} (by : SituationOf P → I → OutcomeOf P) where
   limits_after regular start [] = refl
   limits_after regular start (item ∷ items) = limits_after regular (by start item).next items ∙ (regular start item).limits
 
-  -- one item more
+  -- one more item
   pub last_reply : (start : SituationOf P) (first : List I) (item : I)
       → replies_by by start (first ++ item ∷ []) ≡ replies_by by start first ++ (by (after_by by start first) item).reply
   last_reply start first item =
@@ -184,7 +184,7 @@ mv_stays now name text = mv_to_stays now (file_of now.state.files name) text (re
 pub rm_stays : (now : Situation) (name : List ℕ) → (rm now name).next.place ≡ now.place
 rm_stays now name = judged_stays now ((not (is_here now name), NoFileHere) ∷ []) (changed now (file_removed now.state name)) refl
 
--- ---- commands in other words
+-- ---- commands by other definitions
 pub shown_if_here : (now : Situation) (name body : List ℕ) → is_here now name ≡ true → shown_here now name body ≡ shown now body
 shown_if_here now name body here = ap (λ t. cond (not t) (refused now NoFileHere) (shown now body)) here
 

@@ -58,7 +58,7 @@ own_from declared file word (Derived m) =
 own_from declared file word (Met m met) =
     among_right (file.assigned ++ derived_words file.name file.bytes) (met_tests declared (length file.bytes)) word (filter_among (λ w. is_met (test_of w) (length file.bytes)) declared word m met)
 
--- each word of a file is entailed by one that it has by itself
+-- each word of a file is entailed by one of its own words
 pub words_of_file : (s : State) (file : File) (p : List ℕ) → Among (description s file) p → (w : List ℕ) × Among (own_words s.declared file) w × Among (up s.declared s.axioms w) p
 words_of_file s file p h = entailing s.declared s.axioms (own_words s.declared file) p h
 

@@ -36,12 +36,12 @@ use Rattle.lis_laws.proofs.Named.{file_there, file_of_name, file_of_there, here_
 use Rattle.lis_laws.proofs.Forms.{declares, undeclares, adds_axiom, removes_axiom, adds_file, removes_file, replaces_file}
 
 -- ---- rows of refusals
--- no refusal of the row stands
+-- no refusal of the row applies
 abbrev pub NoneStands : List (Bool × Refusal) → Type 0
 NoneStands [] = Unit {0}
 NoneStands (check ∷ checks) = (check.0 ≡ false) × NoneStands checks
 
--- how a row ends: refused, or done where no refusal stands
+-- how a row ends: refused, or done if no refusal applies
 pub judged_ends : (P : Outcome → Type 0) (now : Situation) (checks : List (Bool × Refusal)) (done : Outcome) → ((refusal : Refusal) → P (refused now refusal)) → (NoneStands checks → P done)
     → P (judged now checks done)
 judged_ends P now [] done refuse go = go tt
@@ -164,7 +164,7 @@ unaxiom_keeps now pair before =
     (λ none. record { state = removes_axiom now.state before.state pair; place = before.place })
 
 -- ---- new files
--- what a new file needs, where no refusal of its row stands and its bytes are not too many
+-- what a new file needs, if no refusal of its row applies and its bytes are not too many
 new_file_fits : (now : Situation) (name : List ℕ) (words : List (List ℕ)) (bytes : List ℕ) → is_file_name name ≡ true
     → length bytes ≤ file_limit now.state.limits.version → used_blocks now.state + blocks_taken now.state.limits.version (length bytes) ≤ now.state.limits.blocks
     → NoneStands (create_checks now words (new_file name (assigned_at now.place words) bytes) (file_added now.state (new_file name (assigned_at now.place words) bytes)))
@@ -202,7 +202,7 @@ create_keeps now name words before named =
     file : File
     file = new_file name (assigned_at now.place words) []
 
--- of a payload no more bytes are kept than it has
+-- no more bytes of a payload are kept than it has
 payload_le : (payload : Payload) → is_payload payload ≡ true → length payload.bytes ≤ payload.size
 payload_le payload sized = by (nat_le payload.size payload_limit) (eqb-true _ _ sized)
   where
@@ -236,7 +236,7 @@ add_keeps now name words payload before named sized =
     file : File
     file = new_file name (assigned_at now.place words) payload.bytes
 
--- ---- files in the place of others
+-- ---- files that replace others
 -- the old file is there, and the name of the new one is free without it
 pub record Replaces (s : State) (old new : File) : Type 0 where
   pub there : Among s.files old
@@ -251,7 +251,7 @@ pub file_here : (now : Situation) (name : List ℕ) → NoneStands (here_checks 
 file_here now name none =
     file_of_there now.state.files name (here_named now name (subst (λ (n : List ℕ). is_here now n ≡ true) (file_of_name now.state.files name) (not-false _ none.0)))
 
--- of a file that is there and is in form
+-- of a file that is there and is well formed
 record OldFits (s : State) (old : File) : Type 0 where
   name : is_file_name old.name ≡ true
   assigned_set : is_rising word_cmp old.assigned ≡ true

@@ -1,4 +1,5 @@
--- What a table keeps: its entailment has no ties, each file has all that its words entail, and the step of a word asks for the word.
+-- What a table keeps: its entailment has no ties, each file has all that its words entail, and the step of a word holds of the files that
+-- have the word.
 use Rattle.std.proofs.Common.{◌≡◌, ℕ, Bool, true, false, nat_lt, nat_le, ◌&&◌, cond, Option, Some, None, is_some, List, length, refl, sym, ap, subst, ◌∙◌}
 use Rattle.std.proofs.lemmas.Bool.{and_parts, and_from}
 use Rattle.lis_graph.proofs.Members.{Among, among_from_any, any_from_among, among_map, map_among}
@@ -22,7 +23,7 @@ pub record Sound (t : Table) : Type 0 where
   -- a file has what its words entail
   pub closed : (file : Entry) → Among t.files file → (p q : List ℕ) → Among file.words p → entails t p q ≡ true → Among file.words q
   pub in_known : (file : Entry) → Among t.files file → (p : List ℕ) → Among file.words p → Among t.known p
-  -- the step of a known word asks whether the file has it
+  -- the step of a known word holds of a file exactly if the file has the word
   pub steps : (file : Entry) → Among t.files file → (p : List ℕ) → Among t.known p → holds (step_of p) file ≡ has_word file.words p
 
 -- ---- entailment, in the table of a state

@@ -10,7 +10,7 @@ module _ {A : Type 0} (above : A → A → Bool) (irreflexive : (a : A) → abov
     pub from : (p ≡ top) ⊎ (above p top ≡ true)
     pub none : list_any (above top) xs ≡ false
 
-  -- from an element above p, with x not above it
+  -- x is above p, and what was found for x has neither x nor any of xs above it
   joined : (x : A) (xs : List A) (p : A) → above p x ≡ true → Top xs x → Top (x ∷ xs) p
   joined x xs p up t = by t.from
     where
@@ -29,7 +29,7 @@ module _ {A : Type 0} (above : A → A → Bool) (irreflexive : (a : A) → abov
       by : (x ≡ t.top) ⊎ (above x t.top ≡ true) → Top (x ∷ xs) p
       by way = record { top = t.top; from = inr (reached way); none = ap (λ b. b || list_any (above t.top) xs) (not_back way) ∙ t.none }
 
-  -- p has x not above it, and then what stands at or above p has not either
+  -- x is not above p, and so not above what is at or above p
   passed : (x : A) (xs : List A) (p : A) → above p x ≡ false → Top xs p → Top (x ∷ xs) p
   passed x xs p e t = record { top = t.top; from = t.from; none = ap (λ b. b || list_any (above t.top) xs) (still t.from) ∙ t.none }
     where

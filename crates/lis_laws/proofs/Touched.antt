@@ -317,7 +317,7 @@ module _ (s : State) (formed : WellFormed s) (word : List ℕ) (unused : not (is
           from (LeftHead e m head) = LeftHead e m head
           from (Described file m has) = Described file m (other w none (description u file) (undeclared_split file m w has).now)
 
--- ---- an axiom more, or one less
+-- ---- one more axiom, or one fewer
 module _ (s : State) (axioms : Pairs) (l r : List ℕ) (front : (e : List ℕ × List ℕ) → Among axioms e → Among ((l, r) ∷ s.axioms) e) (within : (e : List ℕ × List ℕ) → Among s.axioms e → Among axioms e) where
   more_within : IsWithin s (record s { axioms = axioms })
   more_within = record { declared = λ w m. m; axioms = within; files = λ f m. m }
@@ -452,7 +452,7 @@ removes_file_touches s formed file m = (changed, learned)
         from (LeftHead e n head) = LeftHead e n head
         from (Described f n has) = described f n has (same_word f.name file.name) refl
 
--- two changes, one after the other
+-- two changes in sequence
 touches_both : (s u t : State) (some more : List (List ℕ)) → Touches s u some some → Touches u t more more → Touches s t (some ++ more) (some ++ more)
 touches_both s u t some more first next = (
   λ w none. let parts = apart w none in next.0 w parts.1 ∙ first.0 w parts.0,

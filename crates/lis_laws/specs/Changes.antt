@@ -36,7 +36,7 @@ pub record FileFits (s : State) (file : File) : Type 0 where
   pub few_known : length (known (file_added s file)) ≤ s.limits.props
   pub few_blocks : used_blocks s + blocks_taken s.limits.version (length file.bytes) ≤ s.limits.blocks
 
--- a file in the place of another one
+-- a file that replaces another one
 pub record FileReplaces (s : State) (old new : File) : Type 0 where
   pub name : IsTrue (is_file_name new.name)
   pub assigned_set : IsTrue (is_rising word_cmp new.assigned)
@@ -47,8 +47,8 @@ pub record FileReplaces (s : State) (old new : File) : Type 0 where
   pub few_known : length (known (file_replaced s old.name new)) ≤ s.limits.props
   pub few_blocks : used_blocks s + blocks_taken s.limits.version (length new.bytes) ≤ s.limits.blocks + blocks_taken s.limits.version (length old.bytes)
 
--- Each change keeps a state well formed where what it brings is in form and within the limits; what takes something away needs no more
--- than that it is not in use.
+-- Each change keeps a state well formed if what it adds is well formed and within the limits. To remove a declared word it must not be in
+-- use; removing an axiom or a file needs nothing more.
 abbrev pub ChangesKeepForm : Type 0
 ChangesKeepForm = (s : State) → WellFormed s → record {
   declares : (word : List ℕ) (words : List (List ℕ)) → WordFits s word words → WellFormed (declared_under s word words);

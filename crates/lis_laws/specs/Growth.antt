@@ -1,4 +1,4 @@
--- Which words become known when something comes into a state.
+-- Which words become known when something is added to a state.
 use Rattle.std.specs.Prelude.{◌≡◌, ℕ, not, ◌&&◌, List, ◌∷◌, IsTrue}
 use Rattle.std.specs.List.{list_all}
 use Rattle.lis_words.specs.Words.{has_word, is_plain_word}

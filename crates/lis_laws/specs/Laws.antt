@@ -54,7 +54,7 @@ abbrev pub AxiomsAdd : Type 0
 AxiomsAdd = (declared : List (List ℕ)) (axioms : List (List ℕ × List ℕ)) (l r : List ℕ) → record {
   entails : (p q : List ℕ) → Entails declared (with_axiom axioms (l, r)) p q ↔ (Entails declared axioms p q ⊎ (Entails declared axioms p l × Entails declared axioms r q));
   acyclic : Acyclic declared (with_axiom axioms (l, r)) ↔ (Acyclic declared axioms × (Entails declared axioms r l → ⊥));
-  -- the sets are equal as lists, so that nothing depends on where an axiom stands
+  -- the sets are equal as lists, so nothing depends on the position of an axiom
   up : (p : List ℕ) → up declared (with_axiom axioms (l, r)) p ≡ up declared ((l, r) ∷ axioms) p;
 }
 

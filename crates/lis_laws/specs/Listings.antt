@@ -7,7 +7,7 @@ use Rattle.lis_model.specs.State.{State, WellFormed, Entails, known}
 use Rattle.lis_model.specs.Table.{Table, Entry, table}
 use Rattle.lis_model.specs.Listing.{extension, is_candidate, increments}
 
--- the place, and behind its steps the one that the word stands for
+-- the place, and after its steps the step of the word
 abbrev pub further : List Formula → List ℕ → List Formula
 further place word = place ++ step_of word ∷ []
 

@@ -32,11 +32,11 @@ has_forms (Props name) = is_file_name name
 has_forms (Way name) = is_file_name name
 has_forms Stat = true
 
--- as many bytes as the size says, where so many are kept, and else none
+-- as many bytes as the size says if that many are kept, and otherwise none
 abbrev pub is_payload : Payload → Bool
 is_payload payload = length payload.bytes == (if nat_le payload.size payload_limit then payload.size else 0)
 
--- a command's words, names and payload are in form
+-- a command's words, names and payload are well formed
 abbrev pub is_formed : Item → Bool
 is_formed (Do command payload) = has_forms command && is_payload payload
 is_formed (Bad refusal) = true
@@ -58,6 +58,6 @@ pub record IsInForm (now : Situation) : Type 0 where
 abbrev pub StepsKeepForm : Type 0
 StepsKeepForm = (now : Situation) (item : Item) → IsInForm now → IsTrue (is_formed item) → IsInForm (step now item).next
 
--- so all that a session from the empty state comes to is in form, where the limits are in range
+-- so each situation to which a session from the empty state leads is well formed, if the limits are in range
 abbrev pub SessionsAreFormed : Type 0
 SessionsAreFormed = (limits : Limits) → IsTrue (are_in_range limits) → (bytes : List ℕ) (limit : ℕ) → IsInForm (situation_after (start_of limits) (script bytes limit))

@@ -26,19 +26,19 @@ Touches s t words learned = KeepsHolders s t words × KeepsKnown s t learned
 abbrev pub is_held : State → List ℕ → Bool
 is_held s word = list_any (λ (file : File). has_word (description s file) word) s.files
 
--- these words, where some file has that one; then they are among the words of the file, if that one entails them
+-- these words, if some file has that one; then they are among the words of the file, if that one entails them
 abbrev pub where_held : State → List ℕ → List (List ℕ) → List (List ℕ)
 where_held s word words = if is_held s word then words else []
 
--- Each change touches the words that it speaks of, and no others.
+-- Each change touches at most the words that are named here.
 abbrev pub ChangesTouch : Type 0
 ChangesTouch = (s : State) → WellFormed s → record {
-  -- a word that is declared touches files only where it is a test that some file meets, and then what it entails
+  -- a word that is declared touches files only if it is a test that some file meets, and then with all that it entails
   declares : (word : List ℕ) (words : List (List ℕ)) → WordFits s word words → let t = declared_under s word words in
       Touches s t (where_held t word (up t.declared t.axioms word)) (word ∷ []);
   brings : (word : List ℕ) (words : List (List ℕ)) → WordFits s word words → IsTrue (is_held (declared_under s word words) word) → IsTrue (is_test word);
   undeclares : (word : List ℕ) → IsTrue (not (is_in_use s word)) → Touches s (undeclared s word) (word ∷ []) (word ∷ []);
-  -- an axiom touches what its right side entails, and that only where a file has its left side
+  -- an axiom touches what its right side entails, and only if a file has its left side
   adds_axiom : (l r : List ℕ) → AxiomFits s (l, r) → Touches s (axiom_added s (l, r)) (where_held s l (up s.declared s.axioms r)) (l ∷ heads l);
   removes_axiom : (l r : List ℕ) → let t = axiom_removed s (l, r) in Touches s t (where_held t l (up t.declared t.axioms r)) (l ∷ heads l);
   -- a file touches its words

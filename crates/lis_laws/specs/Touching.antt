@@ -35,8 +35,8 @@ described s name = description s (file_of s.files name)
 abbrev pub is_met_there : State → List ℕ → Bool
 is_met_there s word = list_any (λ (file : File). is_met (test_of word) (length file.bytes)) s.files
 
--- What a command touches that leads from one state to another: a file command the words that its file had before, and those that it has then;
--- an axiom what its right side entails, where some file has its left side.
+-- What a command touches, if it leads from s to t. A file command touches the words that its file had before, and those that it has then.
+-- An axiom touches what its right side entails, if some file has its left side.
 abbrev pub touched_by : State → State → Command → TouchedWords
 touched_by s t (Mkdir word) = record { changed = if is_met_there t word then up t.declared t.axioms word else []; learned = word ∷ [] }
 touched_by s t (Rmdir word) = both_kinds (word ∷ [])

@@ -9,7 +9,7 @@ ghost use Rattle.lis_laws.specs.Steps.{ItemsAreFormed, StepsKeepForm, SessionsAr
 ghost use Rattle.lis_laws.specs.Touches.{ChangesTouch, StepsTouchFew};
 ghost use Rattle.lis_laws.specs.Touching.{StepsTouch};
 
-/// What a word entails, and whether axioms lead in a circle, is what chains of links say.
+/// What `up` and `is_acyclic` compute is what chains of links say.
 pub fn tests_are_chains()
     ensures { TestsAreChains }
 {}
@@ -39,7 +39,7 @@ pub fn routes_lead()
     ensures { RoutesLead }
 {}
 
-/// What one more axiom adds to entailment, and when it makes a circle.
+/// What one more axiom adds to entailment, and when it makes a cycle.
 pub fn axioms_add()
     ensures { AxiomsAdd }
 {}
@@ -54,7 +54,7 @@ pub fn changes_keep_form()
     ensures { ChangesKeepForm }
 {}
 
-/// The words, names and payload of every item of an input are in form.
+/// The words, names and payload of every item of an input are well formed.
 pub fn items_are_formed()
     ensures { ItemsAreFormed }
 {}
@@ -64,12 +64,12 @@ pub fn steps_keep_form()
     ensures { StepsKeepForm }
 {}
 
-/// All that a session from the empty state comes to is in form, where its limits are in range.
+/// Each situation to which a session from the empty state leads is well formed, if its limits are in range.
 pub fn sessions_are_formed()
     ensures { SessionsAreFormed }
 {}
 
-/// Which words become known when a word, a file or an axiom comes into a state.
+/// Which words become known when a word, a file or an axiom is added to a state.
 pub fn known_grows()
     ensures { KnownGrows }
 {}

@@ -10,13 +10,13 @@ pub const BLOCK_BITS: u32 = 32_768;
 /// Gates of the journal, a byte each.
 pub const GATES: u32 = 64;
 
-/// Blocks that hold the journal's record.
+/// Blocks that hold the journal's records.
 pub const RECORD_BLOCKS: u32 = 576;
 
-/// The most blocks that wait at once for one commit.
+/// The most blocks that can be staged for one commit.
 pub const MAX_STAGED: u32 = 575;
 
-/// The most blocks that one change writes at once to where they stay: the blocks of a file's content and their index.
+/// The most blocks that one change places, that is, writes straight to their homes: the blocks of a file's content and their index.
 pub const MAX_PLACED: u32 = 257;
 
 /// The first block of the properties.

@@ -3,13 +3,13 @@ use Rattle.std.proofs.Common.{◌≡◌, [], ◌∷◌, codes, true, false, refl
 use Rattle.lis_transducers.specs.Mail.{mail_words}
 use Rattle.lis_mail.specs.Header.{has_end, has_end_from}
 
--- a continuation belongs to the field before it; what stands behind the empty line is no part of the header
+-- a continuation belongs to the field before it; what follows the empty line is no part of the header
 a_mail : mail_words (codes "From: Alice <alice@example.org>\nTo: bob@example.org,\n Carol <carol@example.org>\nSubject: Re: Lunch plan\n\nSee you.\n")
     ≡ codes "from:alice@example.org" ∷ codes "to:bob@example.org" ∷ codes "to:carol@example.org" ∷ codes "subject:re" ∷ codes "subject:lunch" ∷ codes "subject:plan" ∷ []
 unfolding mail_words
 a_mail = refl
 
--- nothing may stand between a field's name and its colon; a continuation without an @ gives nothing here
+-- nothing may be between a field's name and its colon; a continuation without an @ gives nothing here
 no_blank_in_a_name : mail_words (codes "To : a@b\nTO: C@d\r\n e\n") ≡ codes "to:c@d" ∷ []
 unfolding mail_words
 no_blank_in_a_name = refl
@@ -19,7 +19,7 @@ ignored_lines : mail_words (codes "To: a@b\nno field\n c@d\n") ≡ codes "to:a@b
 unfolding mail_words
 ignored_lines = refl
 
--- a word has 60 bytes at most
+-- a word has at most 60 bytes
 long_words : mail_words (codes "Subject: 12345678901234567890123456789012345678901234567890123 1234567890123456789012345678901234567890123456789012\n")
     ≡ codes "subject:1234567890123456789012345678901234567890123456789012" ∷ []
 unfolding mail_words

@@ -1,4 +1,4 @@
--- What stands behind the header's end is no part of the header.
+-- What follows the header's end is no part of the header.
 use Rattle.std.proofs.Common.{◌≡◌, ◌&&◌, ◌⊎◌, inl, inr, ℕ, zero, suc, ◌+◌, ◌-◌, ◌<◌, ◌≤◌, ◌==◌, Bool, true, false, cond, ◌||◌, List, [], ◌∷◌, ◌++◌, length, take, drop, get_or, map, filter, refl, sym, ap, ap₂, ◌∙◌, arith, append_assoc, append-nil, eqb-true}
 use Rattle.std.proofs.Math.Seq.{drop-cons}
 use Rattle.std.proofs.lemmas.Bool.{cases_lt, false≢true, and_parts, or_cases}
@@ -19,7 +19,7 @@ onto_joint : (x : ℕ) (ps qs : List (List ℕ)) → 0 < length ps → onto_firs
 onto_joint x [] qs some = absurd (omega arith)
 onto_joint x (p ∷ ps) qs some = refl
 
--- the parts are those before the byte, and those behind it
+-- the parts are those before the byte, and those after it
 split_joint : (test : ℕ → Bool) (xs : List ℕ) (y : ℕ) (ys : List ℕ) → test y ≡ true → slice_split test (xs ++ y ∷ ys) ≡ slice_split test xs ++ slice_split test ys
 split_joint test [] y ys is = slice_split-cons_yes test y ys is
 split_joint test (x ∷ xs) y ys is = by (test x) refl (split_joint test xs y ys is)
@@ -35,7 +35,7 @@ split_joint test (x ∷ xs) y ys is = by (test x) refl (split_joint test xs y ys
         ∙ (onto_joint x (slice_split test xs) (slice_split test ys) (omega (arith, length-slice_split test xs))
         ∙ sym (ap (λ ps. ps ++ slice_split test ys) (slice_split-cons_no test x xs fails))))
 
--- what stands behind an element that fails counts for nothing
+-- what follows an element that fails does not count
 stopped : (test : List ℕ → Bool) (xs : List (List ℕ)) (y : List ℕ) (ys : List (List ℕ)) → test y ≡ false → take_while test (xs ++ y ∷ ys) ≡ take_while test xs
 stopped test [] y ys fails = take_while-cons test y ys ∙ ap (λ t. cond t (y ∷ take_while test ys) []) fails
 stopped test (x ∷ xs) y ys fails =
@@ -43,7 +43,7 @@ stopped test (x ∷ xs) y ys fails =
     ∙ (ap (λ more. cond (test x) (x ∷ more) []) (stopped test xs y ys fails) ∙ sym (take_while-cons test x xs))
 
 -- ---- an empty line
--- a line that is empty, also where bytes follow its line feed
+-- a line that is empty, also if bytes follow its line feed
 record IsEmptyLine (line : List ℕ) : Type 0 where
   alone : (behind : List ℕ) → slice_split is_feed (line ++ 10 ∷ behind) ≡ line ∷ slice_split is_feed behind
   empty : is_some_bytes (without_return line) ≡ false
@@ -54,7 +54,7 @@ nothing = record { alone = λ behind. refl; empty = refl }
 a_return : IsEmptyLine (13 ∷ [])
 a_return = record { alone = λ behind. refl; empty = refl }
 
--- it ends the header at once, or behind the lines before it
+-- an empty line ends the header at once, or after the lines before it
 ends_first : (line behind : List ℕ) → IsEmptyLine line → header (line ++ 10 ∷ behind) ≡ []
 ends_first line behind is =
     ap (λ ps. take_while is_some_bytes (map without_return ps)) (is.alone behind)
@@ -68,7 +68,7 @@ ends_behind before line behind is =
     ∙ (ap (take_while is_some_bytes) (map-append without_return parts (line ∷ more))
     ∙ stopped is_some_bytes (map without_return parts) (without_return line) (map without_return more) is.empty)
 
--- ---- a front with an empty line
+-- ---- a prefix with an empty line
 -- its header is the same whatever follows
 abbrev HasHeader : List ℕ → Type 0
 HasHeader front = (lines : List (List ℕ)) × ((rest : List ℕ) → header (front ++ rest) ≡ lines)
@@ -83,7 +83,7 @@ below_feed xs k is = by (cases_lt k (length xs))
     by (inl lt) = (lt, eqb-true (get_or xs k 0) 10 is)
     by (inr past) = absurd (omega (arith, eqb-true (get_or xs k 0) 10 is, get_or_past xs k 0 past))
 
--- an empty line that begins at this place
+-- an empty line that begins at this index
 module _ (front : List ℕ) (j : ℕ) (line behind : List ℕ) (is : IsEmptyLine line) (there : drop j front ≡ line ++ 10 ∷ behind) where
   at_front : j ≡ 0 → HasHeader front
   at_front e = (
@@ -142,7 +142,7 @@ module _ (front : List ℕ) (k : ℕ) (feed : is_feed (get_or front k 0) ≡ tru
           let both = and_parts _ _ returns in
           at_line front (k - 1) (13 ∷ []) (drop (suc k) front) a_return (at_return both.0) both.1
 
--- ---- places one after another
+-- ---- indexes in sequence
 places_more : (a n : ℕ) → range_with_len a (suc n) ≡ range_with_len a n ++ (a + n) ∷ []
 places_more a zero = ap (λ k. k ∷ []) (let e : a ≡ a + 0 = omega arith in e)
 places_more a (suc n) =
@@ -150,7 +150,7 @@ places_more a (suc n) =
     ap (λ ks. a ∷ ks) (places_more (a + 1) n ∙ ap (λ k. range_with_len (a + 1) n ++ k ∷ []) e)
 
 module _ (test : ℕ → Bool) (seen at : ℕ) (le : seen ≤ at) where
-  -- none up to this place passes
+  -- none up to this index passes
   pub none_more : list_any test (range_with_len seen (at - seen)) ≡ false → test at ≡ false → list_any test (range_with_len seen (at + 1 - seen)) ≡ false
   none_more none here =
       let count : at + 1 - seen ≡ suc (at - seen) = omega (arith, le) in
@@ -168,7 +168,7 @@ module _ (test : ℕ → Bool) (seen at : ℕ) (le : seen ≤ at) where
       list_any_at test (range_with_len seen (end - seen)) (at - seen) 0 (omega (arith, below, length-range_with_len seen (end - seen)))
       (ap test (get_or-range_with_len seen (end - seen) (at - seen) 0 below ∙ place) ∙ here)
 
--- one of the places passes
+-- one of the indexes passes
 some_place : (test : ℕ → Bool) (ks : List ℕ) → list_any test ks ≡ true → (k : ℕ) × (test k ≡ true)
 some_place test [] none = absurd (false≢true none)
 some_place test (k ∷ ks) is = by (some_place test ks) (or_cases (test k) (list_any test ks) is)
@@ -184,7 +184,7 @@ has_header front seen is =
     let both = and_parts _ _ found.1 in
     ended front found.0 both.0 both.1
 
--- a mail's words are those of a front that has the header's end
+-- a mail's words are those of a prefix that has the header's end
 pub front_gives : (front rest : List ℕ) (seen : ℕ) → has_end_from front seen ≡ true → mail_words (front ++ rest) ≡ mail_words front
 unfolding mail_words
 front_gives front rest seen is =

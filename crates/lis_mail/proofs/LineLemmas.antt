@@ -1,4 +1,4 @@
--- Lines and fields, cut at a place that a search gave.
+-- Lines and fields, cut at an index that a search gave.
 use Rattle.std.proofs.Common.{◌≡◌, ◌≢◌, ℕ, suc, zero, ◌+◌, ◌<◌, Bool, true, false, not, cond, ◌||◌, eqb, List, [], ◌∷◌, length, take, drop, get_or, map, Some, None, refl, sym, ap, subst, ◌∙◌, arith}
 use Rattle.std.proofs.lemmas.Bool.{eqb-true, eq-eqb}
 use Rattle.std.specs.List.{slice_split, take_while, position_or_len, before_first, after_first, list_any}
@@ -24,7 +24,7 @@ other_byte b c apart = by (eqb b c) refl
     by true e = absurd (apart (eqb-true b c e))
     by false e = refl
 
--- a line that does not
+-- a line that does not end with CR
 pub return_kept : (line : List ℕ) (end : ℕ) → length line ≡ end + 1 → (get_or line end 0 ≢ 13) → line ≡ without_return line
 return_kept [] end long last = refl
 return_kept (b ∷ []) zero long last = sym (ap (λ t. cond t [] (b ∷ [])) (other_byte b 13 last))
@@ -40,7 +40,7 @@ module _ (test : ℕ → Bool) where
       by true e = absurd (fails e)
       by false e = refl
 
-  -- where a search found the byte
+  -- the index at which a search found the byte
   pub first_place : (hay : List ℕ) (k : ℕ) → IsFirstByte test hay (Some k) → position_or_len test hay ≡ k
   first_place hay k found =
       position_or_len_is test hay k 0 (omega (arith, found.0.high)) (λ j below. no_pass hay j (found.0.before j (omega arith) below)) (λ _. found.1)
@@ -65,7 +65,7 @@ pub header_cut : (bytes part rest : List ℕ) → slice_split is_feed bytes ≡ 
 header_cut bytes part rest e =
     ap (λ parts. take_while is_some_bytes (map without_return parts)) e ∙ take_while-cons is_some_bytes (without_return part) (map without_return (slice_split is_feed rest))
 
--- the same, where no line feed is left
+-- the same, if no line feed is left
 pub header_whole : (bytes : List ℕ) → IsFirstByte is_feed bytes None
     → header bytes ≡ cond (is_some_bytes (without_return bytes)) (without_return bytes ∷ []) []
 header_whole bytes none =
@@ -80,7 +80,7 @@ header_at bytes k found =
     (subst (λ n. slice_split is_feed bytes ≡ take n bytes ∷ slice_split is_feed (drop (n + 1) bytes)) place
     (slice_split_first is_feed bytes 0 (omega (arith, place, found.0.high))))
 
--- whether a list has an element that passes, by the first place of one
+-- whether a list has an element that passes, by the first index of one
 module _ (test : ℕ → Bool) where
   any_from_place : (xs : List ℕ) → position_or_len test xs < length xs → list_any test xs ≡ true
   any_from_place [] below = absurd (omega arith)

@@ -117,7 +117,7 @@ noted_in_parts : (out xs ys : List (List ℕ))
 noted_in_parts out xs ys =
     ap (noted_all out) (filter-append is_word xs ys) ∙ fold-append noted out (filter is_word xs) (filter is_word ys)
 
--- one part more is noted
+-- one more part is noted
 pub part_noted : (out now all xs ys whole : List (List ℕ)) → noted_all out (filter is_word whole) ≡ all → whole ≡ xs ++ ys
     → now ≡ noted_all out (filter is_word xs) → noted_all now (filter is_word ys) ≡ all
 part_noted out now all xs ys whole before cut is =

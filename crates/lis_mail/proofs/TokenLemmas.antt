@@ -1,4 +1,4 @@
--- The first token of a body, and what is left behind it.
+-- The first token of a body, and what is left after it.
 use Rattle.std.proofs.Common.{◌≡◌, ℕ, suc, ◌+◌, ◌<◌, Bool, true, false, not, cond, List, [], ◌∷◌, ◌++◌, length, take, drop, filter, refl, sym, ap, subst, ◌∙◌, arith, append-nil}
 use Rattle.std.proofs.lemmas.Bool.{false≢true}
 use Rattle.std.specs.List.{slice_split, onto_first, prefix_len}
@@ -16,7 +16,7 @@ gap body = prefix_len is_between body
 abbrev pub run : List ℕ → ℕ
 run body = prefix_len is_plain_byte body
 
--- what stands between tokens gives none
+-- what is between tokens gives none
 pub tokens_past_gap : (body : List ℕ) → tokens body ≡ tokens (drop (gap body) body)
 tokens_past_gap [] = refl
 tokens_past_gap (b ∷ body) = by (is_plain_byte b) refl (tokens_past_gap body)
@@ -27,7 +27,7 @@ tokens_past_gap (b ∷ body) = by (is_plain_byte b) refl (tokens_past_gap body)
     by true is more = sym (ap (λ t. filter is_some_bytes (cond (not t) ([] ∷ slice_split is_between body) (onto_first b (slice_split is_between body)))) is)
     by false is more = rw (one_more (gap body)) more
 
--- the parts behind the first
+-- the parts after the first
 abbrev behind : List ℕ → List (List ℕ)
 behind [] = []
 behind (b ∷ body) = slice_split is_between body
@@ -42,7 +42,7 @@ split_front (b ∷ body) = by (is_plain_byte b) (split_front body)
     by true more = rw (one_more (run body)) (ap (onto_first b) more)
     by false more = refl
 
--- what stands behind a token begins with a byte that is in none
+-- what follows a token begins with a byte that is in none
 abbrev pub BeginsBetween : List ℕ → Type 0
 BeginsBetween [] = Unit {0}
 BeginsBetween (b ∷ body) = is_between b ≡ true
@@ -84,7 +84,7 @@ begins_past_gap (c ∷ body) b rest e = by (is_between c) refl e (begins_past_ga
     by true is e more = more (sym (ap (λ n. drop n (c ∷ body)) (one_more (gap body))) ∙ e)
     by false is e more = let same : c ≡ b = cc in subst (λ x. is_between x ≡ false) same is
 
--- two bodies one after the other, of which the second begins between tokens
+-- two bodies in sequence, of which the second begins between tokens
 split_joined : (xs : List ℕ) (b : ℕ) (ys : List ℕ) → is_between b ≡ true
     → slice_split is_between (xs ++ b ∷ ys) ≡ slice_split is_between xs ++ slice_split is_between ys
 split_joined [] b ys between = ap (λ t. cond t ([] ∷ slice_split is_between ys) (onto_first b (slice_split is_between ys))) between
@@ -106,7 +106,7 @@ tokens_joined xs (b ∷ ys) begins =
     ∙ ap (λ ts. tokens xs ++ ts)
     (sym (ap (λ t. filter is_some_bytes (cond t ([] ∷ slice_split is_between ys) (onto_first b (slice_split is_between ys)))) begins))
 
--- a body that has nothing behind its gap
+-- a body that has nothing after its gap
 pub no_token : (body rest : List ℕ) (n : ℕ) → n ≡ gap body → rest ≡ drop n body → length rest ≡ 0 → tokens body ≡ []
 no_token body [] n at is none = tokens_past_gap body ∙ ap tokens (sym (is ∙ ap (λ k. drop k body) at))
 no_token body (b ∷ rest) n at is none = absurd (omega (arith, none))
@@ -118,7 +118,7 @@ run_some b rest begins = by (is_plain_byte b) refl
     by true is = omega arith
     by false is = absurd (false≢true (sym begins ∙ ap not is))
 
--- a body that has a token behind its gap
+-- a body that has a token after its gap
 pub first_token : (body rest : List ℕ) (n k : ℕ) → n ≡ gap body → rest ≡ drop n body → 0 < length rest → k ≡ run rest
     → (tokens body ≡ take k rest ∷ tokens (drop k rest)) × (0 < k)
 first_token body [] n k at is some run_is = absurd (omega (arith, some))

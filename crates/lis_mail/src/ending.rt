@@ -3,7 +3,7 @@
 ghost use Rattle.std.specs.Prelude.{◌≡◌, ◌<◌, ◌≤◌, length};
 ghost use Rattle.lis_mail.specs.Header.{begins_line, ends_empty, has_end_from};
 
-// Whether a line begins at this place.
+// Whether a line begins at this index.
 fn begins_line(bytes: &[u8], at: usize) -> bool
     requires { at ≤ length bytes.now }
     ensures { result ≡ begins_line bytes.now at }
@@ -11,7 +11,7 @@ fn begins_line(bytes: &[u8], at: usize) -> bool
     at == 0 || bytes[at - 1] == b'\n'
 }
 
-// Whether an empty line ends at this place.
+// Whether an empty line ends at this index.
 fn ends_empty(bytes: &[u8], at: usize) -> bool
     requires { at < length bytes.now }
     ensures { result ≡ ends_empty bytes.now at }
@@ -25,7 +25,7 @@ fn ends_empty(bytes: &[u8], at: usize) -> bool
     bytes[at - 1] == b'\r' && begins_line(bytes, at - 1)
 }
 
-/// Whether the empty line that ends a header ends at one of the places from `seen` on.
+/// Whether an empty line, as it ends a header, ends at one of the indexes from `seen` on.
 pub fn has_end_from(bytes: &[u8], seen: usize) -> bool
     requires { seen ≤ length bytes.now }
     ensures { result ≡ has_end_from bytes.now seen }

@@ -58,7 +58,7 @@ fn kind_of(name: &[u8]) -> FieldKind
     }
 }
 
-/// What kind of field a line begins, and what stands behind its colon.
+/// What kind of field a line begins, and what follows its colon.
 pub fn begun_field(line: &[u8]) -> (FieldKind, &[u8])
     ensures kind { result.0 ≡ begun_kind line.now }
     ensures body { result.1.now ≡ after_first is_colon line.now }

@@ -21,7 +21,7 @@ fn without_return(line: &[u8]) -> &[u8]
     text
 }
 
-/// The first line of the bytes, without its end, and what stands behind it.
+/// The first line of the bytes, without its end, and what follows it.
 pub fn first_line(bytes: &[u8]) -> (&[u8], &[u8])
     ensures header { header bytes.now
         ≡ (if is_some_bytes result.0.now then result.0.now ∷ header result.1.now else []) }
@@ -37,7 +37,7 @@ pub fn first_line(bytes: &[u8]) -> (&[u8], &[u8])
     }
 }
 
-/// Whether the line goes on with the field before it.
+/// Whether the line continues the field before it.
 pub fn is_folded(line: &[u8]) -> bool
     ensures { result ≡ is_folded line.now }
 {

@@ -42,11 +42,10 @@ fn note_tokens(kind: FieldKind, body: &[u8], out: &mut Derived)
     }
 }
 
-/// Notes the words of a mail in order: of each field `From` and `To` a word for each token that has an `@`, of
-/// each field `Subject` a word for each token. The mail is the bytes of a file as they are, read once; bytes that are
-/// no mail give what their first lines happen to give. Lines, the empty line that ends the header, field names and
-/// folded lines are those of RFC 5322, sections 2.1, 2.2 and 2.2.3; which words a field gives, and lines that end with
-/// LF alone, are this project's own.
+/// Notes the words of a mail in order: for each field `From` and `To` a word for each token that has an `@`, for each field `Subject` a
+/// word for each token. The mail is the bytes of a file as they are, read once; bytes that are no mail give what their first lines happen
+/// to give. Lines, the empty line that ends the header, field names and folded lines are those of RFC 5322, sections 2.1, 2.2 and 2.2.3;
+/// which words a field gives, and lines that end with LF alone, are this project's own.
 pub fn mail_props(bytes: &[u8], out: &mut Derived)
     ensures { out.new ≡ noted_all out.old (mail_words bytes.now) }
 {

@@ -21,7 +21,7 @@ fn token_len(body: &[u8]) -> usize
     body.iter().take_while(|byte| is_plain_byte(**byte)).count()
 }
 
-/// The first token, and what stands behind it. None comes exactly where there is no token.
+/// The first token, and what follows it. None exactly if there is no token.
 pub fn next_token(body: &[u8]) -> Option<(&[u8], &[u8])>
     ensures tokens { MatchOption result (tokens body.now ≡ [])
         (λ found. tokens body.now ≡ found.0.now ∷ tokens found.1.now) }

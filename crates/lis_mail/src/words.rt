@@ -10,7 +10,7 @@ use lis_limits::MAX_WORD;
 use lis_model::derived::Derived;
 use lis_words::{Word, read_formula_word};
 
-/// The head and the bytes behind it in small letters. None comes exactly where they are more than 60 bytes.
+/// The head and then the bytes in lower case. None exactly if they are more than 60 bytes.
 pub fn with_head(head: &[u8], bytes: &[u8]) -> Option<ArrayVec<u8, 60>>
     ensures { MatchOption result (MAX_WORD < length (with_head head.now bytes.now))
         (λ joined. joined.items ≡ with_head head.now bytes.now) }
@@ -23,7 +23,7 @@ pub fn with_head(head: &[u8], bytes: &[u8]) -> Option<ArrayVec<u8, 60>>
     Some(joined)
 }
 
-/// The word of a head and a token in small letters. None comes exactly where the two are no word.
+/// The word of a head and a token in lower case. None exactly if the two are no word.
 fn word_of(head: &[u8], token: &[u8]) -> Option<Word>
     ensures word { IsSome result ↔ IsTrue (is_word (with_head head.now token.now)) }
     ensures joined { IfSome result (λ word. word ≡ with_head head.now token.now) }
@@ -32,7 +32,7 @@ fn word_of(head: &[u8], token: &[u8]) -> Option<Word>
     read_formula_word(joined.as_slice())
 }
 
-/// Notes the word of a head and a token, where it is one.
+/// Notes the word of a head and a token, if it is a word.
 pub fn note_under(head: &[u8], token: &[u8], out: &mut Derived)
     ensures { out.new ≡ noted_all out.old (filter is_word (with_head head.now token.now ∷ [])) }
 {

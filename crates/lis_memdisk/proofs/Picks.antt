@@ -21,7 +21,7 @@ picked-at pick at (x ∷ new) (y ∷ old) (suc k) e lt =
     let lens : length new ≡ length old = omega (arith, e) in
     picked-at pick (at + 1) new old k lens less ∙ ap (λ n. picked_byte pick n (get_or new k 0) (get_or old k 0)) same
 
--- a list that has the picked byte at each place is the picked list
+-- a list that has the picked byte at each index is the picked list
 pub picked_whole : (pick at : ℕ) (new old all : List ℕ) → length new ≡ length old → length all ≡ length new → ((k : ℕ) → k < length new → get_or all k 0 ≡ picked_byte pick (at + k) (get_or new k 0) (get_or old k 0)) → all ≡ picked pick at new old
 picked_whole pick at new old all same len each =
     ext_get_or 0 all (picked pick at new old) (len ∙ sym (length-picked pick at new old same))

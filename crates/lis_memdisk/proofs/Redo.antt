@@ -1,4 +1,4 @@
--- Walking through a record up to a call of the disk.
+-- Walking through a record up to a disk call.
 use Rattle.std.proofs.Common.{◌≡◌, ℕ, ◌+◌, ◌<◌, ◌≤◌, Bool, true, false, List, [], ◌∷◌, length, get_or, drop, IsTrue, sym, ◌∙◌, ap, subst, arith, length-append}
 use Rattle.std.specs.List.{list_all}
 use Rattle.std.proofs.lemmas.Bool.{and_parts, leb-true, cond-true, cond-false}
@@ -19,7 +19,7 @@ pub record Redoing (start given shown : List ℕ) (events : List Event) (call : 
   pub stored : IsTrue (all_stored (length given) (length shown) rest)
   pub within : IsTrue (list_all (λ c. is_within (length start) c.deed) (changes_of given shown rest))
 
--- one event of it
+-- one event of the record
 pub record Turn (start given shown : List ℕ) (events : List Event) (call : ℕ) (rest : List Event) (e : Event) (state : Medium) : Type 0 where
   pub on : had_happened call (change_of given shown e) ≡ true → Redoing start given shown events call rest (after state (deed_of given shown e.kind))
   pub stop : had_happened call (change_of given shown e) ≡ false → state ≡ state_at (fresh start) call (changes_of given shown events)
@@ -42,24 +42,24 @@ turn start given shown events call e rest state so_far =
       within = fits.0;
     }
 
--- the same at a place in the list of events
+-- the same at an index of the list of events
 pub turn_at : (start given shown : List ℕ) (events items : List Event) (call k : ℕ) (d : Event) (state : Medium) → items ≡ events → k < length items → Redoing start given shown events call (drop k events) state → Turn start given shown events call (drop (k + 1) events) (get_or items k d) state
 turn_at start given shown events items call k d state same lt so_far =
     turn start given shown events call (get_or items k d) (drop (k + 1) events) state
     (subst (λ rest. Redoing start given shown events call rest state)
     (ap (drop k) (sym same) ∙ (drop_more items k d lt ∙ ap (λ xs. get_or items k d ∷ drop (k + 1) xs) same)) so_far)
 
--- where an event had not happened, the walk stops
+-- if an event had not happened, the walk stops
 pub stopped_at : (start given shown : List ℕ) (events items : List Event) (call k : ℕ) (d : Event) (had : Bool) (state : Medium) → items ≡ events → k < length items → had ≡ had_happened call (change_of given shown (get_or items k d)) → had ≡ false → Redoing start given shown events call (drop k events) state → state ≡ state_at (fresh start) call (changes_of given shown events)
 stopped_at start given shown events items call k d had state same lt is_had unhad so_far =
     (turn_at start given shown events items call k d state same lt so_far).stop (sym is_had ∙ unhad)
 
--- and else it goes on
+-- and otherwise it goes on
 pub went_on : (start given shown : List ℕ) (events items : List Event) (call k : ℕ) (d : Event) (had : Bool) (state : Medium) → items ≡ events → k < length items → had ≡ had_happened call (change_of given shown (get_or items k d)) → had ≡ true → Redoing start given shown events call (drop k events) state → Redoing start given shown events call (drop (k + 1) events) (after state (deed_of given shown (get_or items k d).kind))
 went_on start given shown events items call k d had state same lt is_had had_it so_far =
     (turn_at start given shown events items call k d state same lt so_far).on (sym is_had ∙ had_it)
 
--- what was shown does not get less
+-- what was shown never gets shorter
 pub shown_grows : (s : Medium) (cs : List Change) → length s.shown ≤ length (replay s cs).shown
 shown_grows s [] = omega arith
 shown_grows s (c ∷ cs) = let later = shown_grows (after s c.deed) cs in let now = one s c.deed in omega arith

@@ -18,7 +18,7 @@ pub replay-push : (s : Medium) (cs : List Change) (c : Change) → replay s (cs 
 replay-push s [] c = refl
 replay-push s (d ∷ cs) c = replay-push (after s d.deed) cs c
 
--- with one change more, a moment is one of before, or it is of the new last state
+-- with one more change, a moment is one of before, or it is of the new last state
 pub moment_only : (t : ℕ) (s : Medium) (cs : List Change) (c : Change) (image bytes : List ℕ) → Moment t s (cs ++ c ∷ []) image bytes → Moment t s cs image bytes ⊎ IsLeft (after (replay s cs) c.deed) image bytes
 moment_only t s [] c image bytes is = elim is as (λ _. IsLeft s image bytes ⊎ IsLeft (after s c.deed) image bytes) [
   | inl early ↦ inl early.1
@@ -69,13 +69,13 @@ shows_after s (Writes place bytes) = refl
 shows_after s Syncs = refl
 shows_after s (Shows piece) = refl
 
--- the last state of a record with one deed more
+-- the last state of a record with one more deed
 pub now_after : (a b : Seen) (deed : Deed) (cost : ℕ) → IsTrue a.is_kept → Did a b deed cost → now_of b ≡ after (now_of a) deed
 now_after a b deed cost kept did =
     ap (λ start. replay (fresh start) b.changes) did.start
     ∙ (ap (replay (fresh a.start)) (did.changes kept) ∙ replay-push (fresh a.start) a.changes (record { calls = b.calls; shows = b.shows; deed = deed }))
 
--- A record stays sound with one deed more.
+-- A record stays sound with one more deed.
 pub sound_did : (a b : Seen) (deed : Deed) (cost : ℕ) → IsTrue a.is_kept → IsSoundSeen a → Did a b deed cost → IsTrue (is_within (length a.bytes) deed) → IsTrue (is_counted b.shows deed) → IsSoundSeen b
 sound_did a b deed cost kept sound did within counts =
     let change : Change = record { calls = b.calls; shows = b.shows; deed = deed } in
@@ -159,7 +159,7 @@ synced_did a b cost f g sound did = record {
   };
 }
 
--- what a show leaves of the disk
+-- what a show leaves unchanged on the disk
 pub same_did : (a b : Seen) (piece : List ℕ) (cost : ℕ) (f g : Faults) → Did a b (Shows piece) cost → IsUnchanged (meaning a f) (meaning b g)
 same_did a b piece cost f g did = record {
   bytes = did.bytes;
@@ -203,7 +203,7 @@ call_show a b piece cost f g did stays = record {
   same = λ honest. same_did a b piece cost f g did;
 }
 
--- What had not happened when a call answered came later.
+-- What had not happened when a call returned came later.
 not_yet : (call calls shows : ℕ) (deed : Deed) → IsTrue (is_counted shows deed) → is_by call calls deed ≡ false → call * 2 ^ 64 < clock_at calls shows
 not_yet call calls shows (Writes place bytes) counts not_by = let lt : call < calls = leb-false calls call not_by in omega arith
 not_yet call calls shows Syncs counts not_by = let lt : call < calls = leb-false calls call not_by in omega arith
@@ -253,7 +253,7 @@ crashed_is pick (w ∷ ws) synced n fits len =
           (torn-put before w.place (picked pick w.place w.bytes old) fit),
     )
 
--- The image that a pick takes of the state at a call is a moment since that call.
+-- The image that a pick gives of the state at a call is a moment since that call.
 pub moment_crashed : (s : Seen) (f : Faults) (call pick : ℕ) → IsTrue s.is_kept → IsSoundSeen s → (meaning s f).moments (call * 2 ^ 64) (crashed pick (state_at (fresh s.start) call s.changes).unsynced (state_at (fresh s.start) call s.changes).synced) (state_at (fresh s.start) call s.changes).shown
 moment_crashed s f call pick kept sound =
     let state = state_at (fresh s.start) call s.changes in

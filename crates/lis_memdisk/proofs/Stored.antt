@@ -16,7 +16,7 @@ part-append : (at n : ℕ) (xs ys : List ℕ) → at + n ≤ length xs → part 
 part-append at n xs ys le =
     ap (take n) (drop-append-le at xs ys (omega arith)) ∙ take-append-le n (drop at xs) ys (omega (arith, length-drop at xs))
 
--- and what is added stands behind it
+-- and what is added follows it
 pub part-added : (xs ys : List ℕ) → part (length xs) (length ys) (xs ++ ys) ≡ ys
 part-added xs ys = ap (take (length ys)) (drop_at xs ys (length xs) refl) ∙ take_all (length ys) ys (omega arith)
 
@@ -34,7 +34,7 @@ changes-append given shown gs ss (e ∷ es) stored =
     ap (λ deed. record { calls = e.calls; shows = e.shows; deed = deed } ∷ changes_of (given ++ gs) (shown ++ ss) es) (deed-append given shown gs ss e.kind parts.0)
     ∙ ap (λ cs. change_of given shown e ∷ cs) (changes-append given shown gs ss es parts.1)
 
--- one event more is one change more
+-- one more event is one more change
 pub changes-push : (given shown gs ss : List ℕ) (events : List Event) (e : Event) (deed : Deed) → IsTrue (all_stored (length given) (length shown) events) → deed_of (given ++ gs) (shown ++ ss) e.kind ≡ deed → changes_of (given ++ gs) (shown ++ ss) (events ++ e ∷ []) ≡ changes_of given shown events ++ record { calls = e.calls; shows = e.shows; deed = deed } ∷ []
 changes-push given shown gs ss events e deed stored is =
     map-append (change_of (given ++ gs) (shown ++ ss)) events (e ∷ [])
@@ -59,7 +59,7 @@ stored-push g g' s s' events e le_g le_s stored has =
     list_all-append (λ e. has_bytes g' s' e.kind) events (e ∷ [])
     ∙ and_from (all_stored g' s' events) (has_bytes g' s' e.kind && true) (stored-more g g' s s' events le_g le_s stored) (and_from (has_bytes g' s' e.kind) true has refl)
 
--- A write is noted, with its bytes behind those that were given.
+-- A write is noted, with its bytes after those of earlier writes.
 pub noted_write : (given shown given' bytes : List ℕ) (events events' : List Event) (calls shows place from : ℕ) → IsTrue (all_stored (length given) (length shown) events) → given' ≡ given ++ bytes → from ≡ length given → events' ≡ events ++ record { calls = calls; shows = shows; kind = Write place (record { from = from; len = length bytes }) } ∷ [] → changes_of given' shown events' ≡ changes_of given shown events ++ record { calls = calls; shows = shows; deed = Writes place bytes } ∷ []
 noted_write given shown given' bytes events events' calls shows place from stored is_given is_from is_events =
     ap (λ gs. changes_of gs shown events') is_given
@@ -87,7 +87,7 @@ stored_sync given shown events events' calls shows stored is_events =
     subst (λ es. IsTrue (all_stored (length given) (length shown) es)) (sym is_events)
     (stored-push (length given) (length given) (length shown) (length shown) events _ (omega arith) (omega arith) stored refl)
 
--- What was shown is noted, behind what was shown before.
+-- What was shown is noted, after what was shown before.
 pub noted_show : (given shown shown' piece : List ℕ) (events events' : List Event) (calls shows from : ℕ) → IsTrue (all_stored (length given) (length shown) events) → shown' ≡ shown ++ piece → from ≡ length shown → events' ≡ events ++ record { calls = calls; shows = shows; kind = Show (record { from = from; len = length piece }) } ∷ [] → changes_of given shown' events' ≡ changes_of given shown events ++ record { calls = calls; shows = shows; deed = Shows piece } ∷ []
 noted_show given shown shown' piece events events' calls shows from stored is_shown is_from is_events =
     ap (λ ss. changes_of given ss events') is_shown

@@ -8,19 +8,19 @@ pub data Deed : Type 0 where
   Syncs : Deed
   Shows : List ℕ → Deed
 
--- a deed, and how many calls of the disk and how many calls that show there were by then, this one included
+-- a deed, and how many disk calls and how many calls that show there were by then, its own call included
 pub record Change : Type 0 where
   pub calls : ℕ
   pub shows : ℕ
   pub deed : Deed
 
--- a write that no sync came after
+-- a write that no sync followed
 pub record Unsynced : Type 0 where
   pub place : ℕ
   pub bytes : List ℕ
 
 pub record Medium : Type 0 where
-  -- the bytes of the last sync, or of the beginning
+  -- the bytes of the last sync, or of the start
   pub synced : List ℕ
   -- the newest first
   pub unsynced : List Unsynced
@@ -60,7 +60,7 @@ IsImage (w ∷ ws) synced image =
 abbrev pub IsLeft : Medium → List ℕ → List ℕ → Type 0
 IsLeft s image bytes = IsImage s.unsynced s.synced image × (bytes ≡ s.shown)
 
--- a time: calls that show pass it on between two calls of the disk
+-- a time: calls that show advance it between two disk calls
 abbrev pub clock_at : ℕ → ℕ → ℕ
 clock_at calls shows = calls * 2 ^ 64 + shows
 
@@ -73,7 +73,7 @@ Moment t s [] image bytes = IsLeft s image bytes
 Moment t s (c ∷ cs) image bytes =
     ((t < time_of c) × IsLeft s image bytes) ⊎ Moment t (after s c.deed) cs image bytes
 
--- A deed with these counts had happened when this call of the disk answered.
+-- A deed with these counts had happened when this disk call returned.
 abbrev pub is_by : ℕ → ℕ → Deed → Bool
 is_by call calls (Writes place bytes) = nat_le calls call
 is_by call calls Syncs = nat_le calls call
@@ -82,12 +82,12 @@ is_by call calls (Shows piece) = nat_lt calls call
 abbrev pub had_happened : ℕ → Change → Bool
 had_happened call c = is_by call c.calls c.deed
 
--- the state just after a call of the disk: the changes are in the order of their calls
+-- the state just after a disk call; the changes are in the order of their calls
 abbrev pub state_at : Medium → ℕ → List Change → Medium
 state_at s call [] = s
 state_at s call (c ∷ cs) = if had_happened call c then state_at (after s c.deed) call cs else s
 
--- what becomes of one unsynced byte at a place
+-- what one unsynced byte at an index becomes
 abbrev pub picked_byte : ℕ → ℕ → ℕ → ℕ → ℕ
 picked_byte pick at new old =
     if pick == 0 then old else (if pick == 1 then new else (if pick == 2 then (if at % 2 == 0 then new else old) else pick))
@@ -97,13 +97,13 @@ picked pick at [] old = []
 picked pick at (x ∷ new) [] = []
 picked pick at (x ∷ new) (y ∷ old) = picked_byte pick at x y ∷ picked pick (at + 1) new old
 
--- the image that a pick takes: of each unsynced write, new bytes and those before it are chosen from
+-- the image that a pick gives: in each unsynced write it decides of each byte between the new one and the one before
 abbrev pub crashed : ℕ → List Unsynced → List ℕ → List ℕ
 crashed pick [] synced = synced
 crashed pick (w ∷ ws) synced =
     put (crashed pick ws synced) w.place (picked pick w.place w.bytes (part w.place (length w.bytes) (crashed pick ws synced)))
 
--- the bytes of a state, and the image that a pick takes of it
+-- the bytes of a state, and the image that a pick gives of it
 pub record IsAt (pick : ℕ) (s : Medium) (image bytes : List ℕ) : Type 0 where
   pub image_is : image ≡ crashed pick s.unsynced s.synced
   pub bytes_are : bytes ≡ bytes_of s

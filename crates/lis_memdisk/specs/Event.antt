@@ -1,4 +1,4 @@
--- The record as it is stored: the bytes of all writes stand one after another, and so do those of all shows.
+-- The record as it is stored: the bytes of all writes are in sequence, and so are those of all shows.
 use Rattle.std.specs.Prelude.{ℕ, ◌+◌, nat_le, Bool, true, List, map}
 use Rattle.std.specs.List.{list_all}
 use Rattle.lis_ports.specs.Bytes.{part}
@@ -41,7 +41,7 @@ has_given given (Write place span) = is_in span given
 has_given given Sync = true
 has_given given (Show span) = true
 
--- how many bytes it showed
+-- how many bytes an event showed
 abbrev pub shown_len : Kind → ℕ
 shown_len (Write place span) = 0
 shown_len Sync = 0

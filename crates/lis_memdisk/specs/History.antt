@@ -1,4 +1,4 @@
--- A history as it is seen.
+-- A history as a contract sees it.
 use Rattle.lis_memdisk.specs.declared.history.History.{History}
 use Rattle.lis_memdisk.specs.Seen.{Seen}
 use Rattle.lis_memdisk.specs.Event.{changes_of}

@@ -14,7 +14,7 @@ pub moment_last : (t : ℕ) (s : Medium) (cs : List Change) (image bytes : List 
 moment_last t s [] image bytes is = is
 moment_last t s (c ∷ cs) image bytes is = inr (moment_last t (after s c.deed) cs image bytes is)
 
--- A moment since a time that no change came after is one of the last state.
+-- If no change came after a time, a moment since that time is one of the last state.
 pub moment_now : (t : ℕ) (s : Medium) (cs : List Change) (image bytes : List ℕ) → IsTrue (list_all (λ c. nat_le (time_of c) t) cs) → Moment t s cs image bytes → IsLeft (replay s cs) image bytes
 moment_now t s [] image bytes past is = is
 moment_now t s (c ∷ cs) image bytes past is =
@@ -32,7 +32,7 @@ moment_earlier t u s (c ∷ cs) image bytes le is =
       | inr later ↦ inr (moment_earlier t u (after s c.deed) cs image bytes le later)
     ]
 
--- It has so many bytes, in each image too, and it reads as an image.
+-- The disk has n bytes, and so has each image. The disk reads as an image.
 pub record IsWhole (n : ℕ) (s : Medium) : Type 0 where
   pub len : length (bytes_of s) ≡ n
   pub fits : IsTrue (list_all (λ w. nat_le (w.place + length w.bytes) n) s.unsynced)
@@ -71,7 +71,7 @@ whole_replay n s (c ∷ cs) whole within =
 pub whole_fresh : (start : List ℕ) → IsWhole (length start) (fresh start)
 whole_fresh start = record { len = refl; fits = refl; reads = refl; images = λ image is. ap length is }
 
--- It has as many bytes as at its start.
+-- The disk has as many bytes as at its start.
 pub whole_start : (s : Seen) → IsSoundSeen s → length s.start ≡ length s.bytes
 whole_start s sound =
     sym (whole_replay (length s.start) (fresh s.start) s.changes (whole_fresh s.start) sound.within).len ∙ ap length sound.reads
@@ -84,7 +84,7 @@ whole_of s sound = subst (λ n. IsWhole n (now_of s)) (whole_start s sound)
 some_same : (xs ys : List ℕ) → Some xs ≡ Some ys → xs ≡ ys
 some_same xs ys e = ap (λ o. unwrap_or o []) e
 
--- what is sound where it is kept
+-- if a record is kept, it is sound
 abbrev pub Sound : Seen → Type 0
 Sound s = IsTrue s.is_kept → IsSoundSeen s
 

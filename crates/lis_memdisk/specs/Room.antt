@@ -1,4 +1,4 @@
--- The room of a history: what it may still take, of the vectors that were reserved for it.
+-- The room of a history: how much it may still use of the vectors that were reserved for it.
 use Rattle.std.specs.Prelude.{ℕ, ◌+◌, ◌*◌, ◌<◌, ◌≤◌, Bool, IsTrue}
 
 pub record HasSpace (is_kept : Bool) (left shown shown_room given given_room events events_room : ℕ) : Type 0 where

@@ -1,4 +1,4 @@
--- A disk in memory as it is seen, and what it means.
+-- A disk in memory as a contract sees it, and its meaning.
 use Rattle.std.specs.Prelude.{◌≡◌, ℕ, ◌+◌, ◌-◌, ◌^◌, ◌<◌, ◌≤◌, min, nat_lt, nat_le, Bool, true, ◌&&◌, ◌||◌, if◌then◌else◌, List, [], ◌∷◌, ◌++◌, length, Some, IsTrue}
 use Rattle.std.specs.List.{list_all}
 use Rattle.lis_memdisk.specs.declared.history.TheConstants.{PLAIN_ROOM}
@@ -25,13 +25,13 @@ now_of s = replay (fresh s.start) s.changes
 abbrev pub clock_of : Seen → ℕ
 clock_of s = clock_at s.calls s.shows
 
--- how many calls of the disk and how many that show failed, and how many of both when the last call began
+-- how many disk calls and how many calls that show failed, and how many of both when the last call began
 pub record Faults : Type 0 where
   pub disk : ℕ
   pub show : ℕ
   pub behind : ℕ
 
--- What it means: it is honest, and tells images and moments where a record is kept.
+-- The meaning of the disk: it is honest, and reports images and moments if a record is kept.
 abbrev pub meaning : Seen → Faults → Meaning
 meaning s faults = record {
   is_honest = true;
@@ -47,7 +47,7 @@ meaning s faults = record {
   behind = faults.behind;
 }
 
--- a write within so many bytes
+-- a write within this many bytes
 abbrev pub is_within : ℕ → Deed → Bool
 is_within len (Writes place bytes) = nat_le (place + length bytes) len
 is_within len Syncs = true
@@ -59,7 +59,7 @@ is_counted shows (Writes place bytes) = true
 is_counted shows Syncs = true
 is_counted shows (Shows piece) = nat_lt 0 shows
 
--- The record is that of a disk that reads as these bytes, shows these, and counts so many calls.
+-- The record is that of a disk that reads as these bytes, shows these, and has these counts of calls.
 pub record IsSoundSeen (s : Seen) : Type 0 where
   pub within : IsTrue (list_all (λ c. is_within (length s.start) c.deed) s.changes)
   pub counted : IsTrue (list_all (λ c. is_counted c.shows c.deed) s.changes)
@@ -67,7 +67,7 @@ pub record IsSoundSeen (s : Seen) : Type 0 where
   pub reads : bytes_of (now_of s) ≡ s.bytes
   pub shows : (now_of s).shown ≡ s.shown
 
--- a count after one more call: it stands still at its last value
+-- a count after one more call: it stays at its largest value
 abbrev pub next_of : ℕ → ℕ
 next_of count = min (count + 1) (2 ^ 64 - 1)
 
@@ -97,7 +97,7 @@ shown_after (Writes place bytes) xs = xs
 shown_after Syncs xs = xs
 shown_after (Shows piece) xs = xs ++ piece
 
--- A call did this, and took so much room. Where a record is kept, it is the last change of the record, and time went on.
+-- A call did this, and took this much room. If a record is kept, the deed is the last change of the record, and the clock advanced.
 pub record Did (old new : Seen) (deed : Deed) (cost : ℕ) : Type 0 where
   pub kept : new.is_kept ≡ old.is_kept
   pub start : new.start ≡ old.start
@@ -107,31 +107,31 @@ pub record Did (old new : Seen) (deed : Deed) (cost : ℕ) : Type 0 where
   pub shown : new.shown ≡ shown_after deed old.shown
   pub left : new.left + cost ≡ old.left
 
--- There was one call of the disk more.
+-- There was one more disk call.
 pub record IsNext (old new : Seen) : Type 0 where
   pub calls : new.calls ≡ next_of old.calls
   pub shows : new.shows ≡ old.shows
   pub later : clock_of old ≤ clock_of new
 
--- There was one call more that shows.
+-- There was one more call that shows.
 pub record IsNextShow (old new : Seen) : Type 0 where
   pub calls : new.calls ≡ old.calls
   pub shows : new.shows ≡ next_of old.shows
   pub later : clock_of old ≤ clock_of new
 
--- the room that n bytes take beside their event in the record, if one is kept
+-- the room in the record that an event with n bytes takes, if a record is kept
 abbrev pub cost_of : Bool → ℕ → ℕ
 cost_of is_kept n = if is_kept then 48 + n else 0
 
--- The same where the bytes are shown: they take room in any case.
+-- The same for bytes that are shown: they take room in any case.
 abbrev pub show_cost_of : Bool → ℕ → ℕ
 show_cost_of is_kept n = if is_kept then 48 + n else n
 
--- There is no room left for a cost, or the record cannot count one call more.
+-- There is no room left for a cost, or the record cannot count one more call.
 abbrev pub is_full : Bool → ℕ → ℕ → ℕ → Bool
 is_full is_kept left count cost = nat_lt left cost || (is_kept && nat_le (2 ^ 64 - 1) count)
 
--- at its beginning: with no room a record is not kept, and 65,536 bytes may be shown
+-- at the start: with room 0 no record is kept, and 65,536 bytes may be shown
 abbrev pub first_seen : List ℕ → ℕ → Seen
 first_seen bytes room = record {
   is_kept = nat_lt 0 room;

@@ -23,7 +23,7 @@ pub fn overwrite_vec(all: &mut Vec<u8>, place: usize, bytes: &[u8])
     overwrite(all, place, bytes);
 }
 
-/// Writes of each byte what a crash leaves of it.
+/// Writes what a crash leaves of each byte.
 pub fn tear(all: &mut [u8], place: usize, bytes: &[u8], pick: u8)
     requires { place + length bytes.now ≤ length all.old }
     ensures { all.new ≡ put all.old place (picked pick place bytes.now (part place (length bytes.now) all.old)) }
@@ -33,7 +33,7 @@ pub fn tear(all: &mut [u8], place: usize, bytes: &[u8], pick: u8)
     pick_bytes(range, place, bytes, pick);
 }
 
-// Puts in the place of each byte what a crash leaves of it.
+// Replaces each byte by what a crash leaves of it.
 fn pick_bytes(range: &mut [u8], place: usize, bytes: &[u8], pick: u8)
     requires same_len { length bytes.now ≡ length range.old }
     requires fits { place + length bytes.now < 2 ^ 64 }

@@ -18,7 +18,7 @@ impl Kind {
     ghost use Rattle.std.specs.Prelude.{◌≡◌};
     ghost use Rattle.lis_memdisk.specs.Event.{shown_len};
 
-    /// How many bytes it showed.
+    /// How many bytes the event showed.
     pub fn shown_len(self) -> usize
         ensures { result ≡ shown_len self }
     {
@@ -29,7 +29,7 @@ impl Kind {
     }
 }
 
-/// A change, and how many calls of the disk and how many calls that show there were by then, it included.
+/// A change, and how many disk calls and how many calls that show there were by then, its own call included.
 #[derive(Clone, Copy)]
 pub struct Event {
     pub calls: u64,
@@ -47,7 +47,7 @@ impl Event {
     ghost use Rattle.lis_memdisk.specs.Changes.{had_happened};
     ghost use Rattle.lis_memdisk.specs.Event.{change_of};
 
-    /// Whether it had happened when a call of the disk answered.
+    /// Whether the event had happened when a disk call returned.
     pub fn had_happened(self, call: u64) -> bool
         ensures { (given shown : List ℕ) → result ≡ had_happened call (change_of given shown self) }
     {

@@ -13,9 +13,9 @@ use std::fs::File;
 use std::io::{Error, ErrorKind, Write};
 use std::os::unix::fs::FileExt;
 
-/// A file as the disk, and a writer for what is shown. It tells no content and tries nothing twice: a call that
-/// reads, writes or shows less than it was asked for is a fault, and each fault is counted. Where no file could be
-/// opened every call of the disk fails; `len` is then to be the greatest number.
+/// A file as the disk, and a writer for what is shown. The station reports no content and retries nothing. A disk call that reads or writes
+/// less than was requested is a fault, and so is a call that shows nothing; each fault is counted. If no file could be opened, every disk
+/// call fails; `len` must then be the largest number.
 #[derive(Drop)]
 pub struct FileStation<W: Write> {
     pub file: Option<File>,
@@ -23,7 +23,7 @@ pub struct FileStation<W: Write> {
     pub out: W,
     pub disk_faults: u64,
     pub show_faults: u64,
-    /// How many calls had failed, of both, when the last one began.
+    /// How many calls of both kinds had failed when the last one began.
     pub behind: u128,
     /// Why the disk failed last. Without a file it stays as it is.
     pub cause: Option<Error>,
@@ -116,7 +116,7 @@ impl<W: Write> Station for FileStation<W> {
         ensures began { self.new.behind ≡ self.old.disk_faults + self.old.show_faults }
         ensures one { OnErr result (self.new.show_faults ≡ next_of self.old.show_faults) }
 
-        // A writer that tells its bytes has just those that were shown.
+        // A writer that reports its bytes has exactly those that were shown.
         ensures written { WriteAppends (W.contents self.old.out) (W.contents self.new.out) result piece.now }
     {
         self.behind = failed(self.disk_faults, self.show_faults);

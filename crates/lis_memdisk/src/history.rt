@@ -1,4 +1,4 @@
-//! The bytes of a disk in memory, what was shown beside it, and where it is wanted a record of all that changed them.
+//! The bytes of a disk in memory, what was shown, and, if it is wanted, a record of all that changed them.
 
 ghost use Rattle.std.specs.Prelude.{false, [], ◌∷◌, ◌≡◌, ◌+◌, ◌-◌, ◌^◌, ◌<◌, ◌≤◌, ◌↔◌, ◌++◌, ℕ, List, length, IsTrue, IsErr, IfOk, OnOk, OnErr, vec_len, vec_capacity};
 ghost use Rattle.lis_ports.specs.Bytes.{part};
@@ -12,7 +12,7 @@ use crate::event::{EVENT_LEN, Event, Kind, Span};
 use lis_ports::Failed;
 use std::alloc::{AllocError, Global};
 
-/// How many bytes may be shown where no record is kept.
+/// How many bytes may be shown if no record is kept.
 pub const PLAIN_ROOM: usize = 65_536;
 
 #[derive(Drop)]
@@ -55,7 +55,7 @@ fn keep(kept: &mut Vec<u8>, bytes: &[u8])
     };
 }
 
-// Does to the bytes what an event did to them, and to an image what a crash makes of it.
+// Does to the bytes what an event did to them, and to an image what a crash leaves of the event.
 fn redo(given: &[u8], kind: Kind, pick: u8, image: &mut [u8], bytes: &mut [u8])
     requires stored { IsTrue (has_given (length given.now) kind) }
     requires within { IsTrue (is_within (length image.old) (deed_of given.now [] kind)) }
@@ -93,7 +93,7 @@ impl History {
     ghost use Rattle.lis_memdisk.specs.Changes.Deed.{Writes, Syncs, Shows};
     ghost use Rattle.lis_memdisk.specs.History.{seen_of};
 
-    /// With room 0 no record is kept, and so many bytes may be shown.
+    /// With room 0 no record is kept, and `PLAIN_ROOM` bytes may be shown.
     pub fn new(alloc: Global, bytes: &[u8], room: u64) -> Result<Self, AllocError>
         ensures { IfOk result (λ h. seen_of h ≡ first_seen bytes.now room) }
     {
@@ -113,7 +113,7 @@ impl History {
         })
     }
 
-    /// A call of the disk passes.
+    /// A disk call that changes only the counts of calls.
     pub fn pass(&mut self)
         ensures passed { Passed (seen_of self.old) (seen_of self.new) }
         ensures counted { IsNext (seen_of self.old) (seen_of self.new) }
@@ -121,7 +121,7 @@ impl History {
         self.calls = self.calls.saturating_add(1);
     }
 
-    /// A call that shows passes.
+    /// A call that shows, and that changes only the counts of calls.
     pub fn pass_show(&mut self)
         ensures passed { Passed (seen_of self.old) (seen_of self.new) }
         ensures counted { IsNextShow (seen_of self.old) (seen_of self.new) }
@@ -129,7 +129,7 @@ impl History {
         self.shows = self.shows.saturating_add(1);
     }
 
-    // The room that an event with so many bytes takes.
+    // The room that an event with `len` bytes takes.
     fn cost(&self, len: usize) -> usize
         requires { 48 + len < 2 ^ 64 }
         ensures { result ≡ cost_of self.now.is_kept len }
@@ -188,7 +188,7 @@ impl History {
         self.left -= EVENT_LEN + bytes.len();
     }
 
-    /// Of a piece that is not empty, shows so many first bytes.
+    /// Shows a whole piece. It fails exactly if there is no room for the piece.
     pub fn show(&mut self, piece: &[u8]) -> Result<(), Failed>
         requires { length piece.now < 2 ^ 63 }
         ensures did { OnOk result (Did (seen_of self.old) (seen_of self.new) (Shows piece.now) (show_cost_of self.old.is_kept (length piece.now))) }
@@ -282,7 +282,7 @@ impl History {
         self.left -= EVENT_LEN;
     }
 
-    /// The image that a pick takes of the moment just after a call of the disk.
+    /// The image that a pick gives of the moment just after a disk call.
     pub fn crash(&self, alloc: Global, call: u64, pick: u8) -> Result<Vec<u8>, AllocError>
         requires { IsTrue self.now.is_kept }
         ensures { IfOk result (λ v. let s = state_at (fresh (seen_of self.now).start) call (seen_of self.now).changes in
@@ -299,7 +299,7 @@ impl History {
         Ok(image)
     }
 
-    /// How many bytes had been shown when a call of the disk answered.
+    /// How many bytes had been shown when a disk call returned.
     pub fn shown_at(&self, call: u64) -> u64
         requires { IsTrue self.now.is_kept }
         ensures { result ≡ length (state_at (fresh (seen_of self.now).start) call (seen_of self.now).changes).shown }

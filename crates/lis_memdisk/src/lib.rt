@@ -1,4 +1,4 @@
-//! Stations: one in memory, that a test can let fail and crash, and one over a file and a writer.
+//! Stations: one in memory, which a test can make fail and crash, and one over a file and a writer.
 #![tactic(auto)]
 
 mod bytes;

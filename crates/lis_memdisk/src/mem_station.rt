@@ -1,4 +1,4 @@
-//! A station in memory, that a test can let fail, stop and crash.
+//! A station in memory, which a test can make fail, stop and crash.
 
 ghost use Rattle.std.specs.Prelude.{◌≡◌, ◌+◌, ◌*◌, ◌^◌, ◌<◌, ◌≤◌, ◌↔◌, ◌||◌, ◌==◌, min, length, take, List, IsTrue, IsErr, IfOk, OnOk, OnErr, MatchResult};
 ghost use Rattle.std.specs.List.{list_any};
@@ -14,15 +14,15 @@ use crate::history::{History, PLAIN_ROOM};
 use lis_ports::{Disk, Failed, Station};
 use std::alloc::{AllocError, Global};
 
-/// A disk in memory and what was shown beside it. A call fails where it was told to, or where the record or the shown
-/// bytes have no room, and for no other cause. A call that fails changes nothing but the counts of calls and faults.
+/// A disk in memory, and what was shown. A call fails if it was set to fail, or if the record or the shown bytes have no room, and for no
+/// other cause. A call that fails changes nothing except the counts of calls and faults.
 #[derive(Drop)]
 pub struct MemStation {
-    /// The numbers of the calls of the disk that fail. The first has the number 1.
+    /// The numbers of the disk calls that fail. The first has the number 1.
     pub fails: Vec<u64>,
     /// The same for calls that show.
     pub show_fails: Vec<u64>,
-    /// After so many calls of the disk every call fails.
+    /// After this many disk calls every call fails.
     pub fuse: u64,
     /// The most bytes that one call shows.
     pub step: usize,
@@ -42,9 +42,8 @@ fn is_listed(numbers: &[u64], number: u64) -> bool
 impl MemStation {
     ghost use Rattle.lis_memdisk.specs.MemStation.{held, meaning_of, is_spent, is_told, is_told_to_show, state_of, IsNew};
 
-    /// A station that reads as these bytes. Each write, sync and show that succeeds takes 48 bytes of the room for its
-    /// place in the record, and the bytes that it wrote or showed. With room 0 it keeps no record, and 65,536 bytes
-    /// can be shown.
+    /// A station that reads as these bytes. Each write, sync and show that succeeds takes 48 bytes of the room for its event in the record,
+    /// and as many more as it wrote or showed. With room 0 it keeps no record, and 65,536 bytes can be shown.
     pub fn new(alloc: Global, bytes: &[u8], room: u64) -> Result<Self, AllocError>
         ensures { IfOk result (λ m. IsNew m bytes.now room) }
     {
@@ -60,7 +59,7 @@ impl MemStation {
         })
     }
 
-    /// How many calls of the disk there were. The count stands still at its last value.
+    /// How many disk calls there were. The count stays at its largest value.
     pub fn calls(&self) -> u64
         ensures { result ≡ (held self.now).calls }
     {
@@ -74,22 +73,22 @@ impl MemStation {
         self.history.shown()
     }
 
-    /// The image that a crash just after a call of the disk leaves; call 0 is the beginning. Of the bytes that were
-    /// written and not synced, pick 0 takes those before, 1 the new ones, 2 the new ones at even places, and another
-    /// pick its own number.
+    /// The image that a crash just after a disk call leaves; call 0 is the start. Of the bytes that were written and not synced, pick 0
+    /// takes those before, 1 the new ones, and 2 the new ones at even indexes and those before at odd ones. Any other pick puts its own
+    /// number there.
     pub fn crash(&self, alloc: Global, call: u64, pick: u8) -> Result<Vec<u8>, AllocError>
         requires kept { IsTrue (held self.now).is_kept }
         requires past { call ≤ (held self.now).calls }
         ensures image { IfOk result (λ v. v.items ≡ crashed pick (state_of self.now call).unsynced (state_of self.now call).synced) }
 
-        // It is a moment since that call, with the bytes that had been shown.
+        // The image is a moment since that call, with the bytes that had been shown.
         ensures moment { IfOk result (λ v. (meaning_of self.now).moments (call * 2 ^ 64) v.items (state_of self.now call).shown) }
     {
         let image = self.history.crash(alloc, call, pick)?;
         Ok(image)
     }
 
-    /// How many bytes had been shown when a call of the disk answered.
+    /// How many bytes had been shown when a disk call returned.
     pub fn shown_at(&self, call: u64) -> u64
         requires kept { IsTrue (held self.now).is_kept }
         requires past { call ≤ (held self.now).calls }

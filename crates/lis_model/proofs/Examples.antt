@@ -43,7 +43,7 @@ odd_lines : session (codes "\t mkdir\t a \r\n\n \t\nmkdir a\nmkdir size:\ncreate
 unfolding all_items whole_items step
 odd_lines = refl
 
--- past the limit, only what is whole within it is done
+-- past the limit, only what is whole within it is run
 past_the_limit : replies (start_of (record { files = 64; props = 64; blocks = 8; version = 1 })) (script (codes "mkdir a\nmkdir b\n") 12) ≡ line (codes "ok")
 unfolding all_items whole_items step
 past_the_limit = refl
@@ -60,7 +60,7 @@ unknown_place : session (codes "cd nosuch\ncd a/\npwd\n")
 unfolding all_items whole_items step resolved text_words text_steps broken_at printed is_place
 unknown_place = refl
 
--- a file made at a place has the words of the place; the place is no word where it has a bar
+-- a file made at a place has the words of the place; a place with a bar is no place of words
 made_at_places : session (codes "mkdir a\nmkdir b\ncd a/b\ncreate x\ncd /\nls\ncd a\nls\ncd /a|b\ncreate y\nmkdir d\n")
     ≡ line (codes "ok") ++ line (codes "ok") ++ line (codes "ok") ++ line (codes "ok") ++ line (codes "ok")
     ++ line (codes "f x") ++ line (codes "ok") ++ line (codes "ok") ++ line (codes "f x") ++ line (codes "ok") ++ line (codes "ok")
@@ -78,7 +78,7 @@ one_block : with_blocks 1 (codes "add a 1\nx\nadd b 0\n\nadd c 1\ny\nrm a\nadd c
 unfolding all_items whole_items step digits
 one_block = refl
 
--- a payload is followed by a line feed, and else all up to the next one is dropped
+-- a line feed must follow a payload; otherwise all up to the next one is dropped
 payload_ends : session (codes "add a 2\nxyz\nls\nadd b 3\nabc\ncat b\n")
     ≡ line (codes "no 04 payload end") ++ line (codes "ok") ++ line (codes "ok") ++ line (codes "b 3") ++ line (codes "abc") ++ line (codes "ok")
 unfolding all_items whole_items step digits
@@ -90,7 +90,7 @@ payload_forms : session (codes "add a 0000000000003\nls\nadd a 000000000003\nxyz
 unfolding all_items whole_items step printed
 payload_forms = refl
 
--- the end of the input may stand for a payload's line feed, but not where the input goes on past the limit
+-- the end of the input may replace a payload's line feed, but not if the input goes on past the limit
 last_payload : session (codes "add a 3\nxyz") ++ session (codes "add a 0") ++ session (codes "add a 1")
     ≡ line (codes "ok") ++ line (codes "ok") ++ line (codes "no 03 cut payload")
 unfolding all_items whole_items step
@@ -150,7 +150,7 @@ two_ways : said (plain (Mkdir (codes "top")) ∷ plain (Mkdir (codes "l")) ∷ p
     ≡ ok ++ ok ++ ok ++ ok ++ ok ++ ok ++ ok ++ ok ++ ok ++ ok ++ ok ++ line (codes "d top") ++ line (codes "f y") ++ ok ++ ok ++ line (codes "d bot") ++ line (codes "f y") ++ ok
 two_ways = refl
 
--- bytes are added, and written anew
+-- bytes are added, and replaced
 bytes_change : said (Do (Add (codes "a") []) (bytes (codes "xy")) ∷ Do (Write (codes "a")) (bytes (codes "z")) ∷ plain (Cat (codes "a")) ∷ Do (Write (codes "b")) (bytes (codes "z"))
     ∷ Do (Write (codes "a")) (record { size = 4097; bytes = [] }) ∷ Do (Add (codes "c") []) (bytes (codes "z")) ∷ Do (Add (codes "d") []) (bytes (codes "z"))
     ∷ Do (Write (codes "a")) (record { size = 65537; bytes = [] }) ∷ [])

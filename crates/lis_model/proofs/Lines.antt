@@ -59,7 +59,7 @@ rest_shorter b bytes = by (payload_size (before_feed (b ∷ bytes))) (feed_short
     by None more = more
     by (Some n) more = omega (arith, more, with_shorter (before_feed (b ∷ bytes)) n (after_feed (b ∷ bytes)))
 
--- ---- items one after another, where each part takes a byte at least
+-- ---- items in sequence, if each part takes at least one byte
 abbrev pub TakesSome : {I : Type 0} → (List ℕ → FirstOf I) → Type 0
 TakesSome first = (b : ℕ) (bytes : List ℕ) → length (first (b ∷ bytes)).rest ≤ length bytes
 
@@ -86,7 +86,7 @@ whole_fuel first some (suc n) (suc m) (b ∷ bytes) h k =
     ap (λ items. cond (first (b ∷ bytes)).is_whole (option_to_list (first (b ∷ bytes)).item ++ items) [])
     (whole_fuel first some n m (first (b ∷ bytes)).rest (omega (arith, some b bytes)) (omega (arith, some b bytes)))
 
--- A cut of inputs by their first segments: what the first segment asks for, and then the items of the rest.
+-- A cut of inputs by their first segments: what the first segment requests, and then the items of the rest.
 pub record CutsBy {I : Type 0} (cut : Cut I) (first : List ℕ → FirstOf I) : Type 0 where
   pub all_none : cut.all [] ≡ []
   pub whole_none : cut.whole [] ≡ []
@@ -118,7 +118,7 @@ pub session_cuts : CutsBy session_cut first_of
 unfolding all_items whole_items
 session_cuts = cuts_by first_of rest_shorter
 
--- the items of a session: what the first segment of its input asks for, and then those of the rest
+-- the items of a session: what the first segment of its input requests, and then those of the rest
 pub all_items_of : (bytes : List ℕ) (first : First) → 0 < length bytes → first_of bytes ≡ first
     → all_items bytes ≡ option_to_list first.item ++ all_items first.rest
 all_items_of bytes first some is = session_cuts.all bytes first some is
@@ -204,7 +204,7 @@ last_with text size one some =
     ∙ ap (λ line. first_with line size (after_feed text)) (before_feed_all text one)
     ∙ ap (λ rest. first_with text size rest) (after_feed_all text one)
 
--- fewer bytes than are to follow
+-- fewer bytes than must follow
 pub with_cut : (text bytes : List ℕ) (size : ℕ) → length bytes < size
     → first_with text size bytes ≡ record { item = Some (Bad CutPayload); rest = []; is_whole = false }
 with_cut text bytes size few = rw (le-leb (suc (length bytes)) size few) refl

@@ -1,4 +1,4 @@
--- Items carried out one after another.
+-- Items run in sequence.
 use Rattle.std.proofs.Common.{◌≡◌, List, [], ◌∷◌, ◌++◌, refl, ap, sym, ◌∙◌, append_assoc}
 use Rattle.lis_model.specs.Step.{SituationOf, OutcomeOf, replies_by, after_by}
 

@@ -37,7 +37,7 @@ new_file name assigned bytes = record { name = name; bytes = bytes; assigned = a
 abbrev pub has_name : List File → List ℕ → Bool
 has_name files name = list_any (λ (file : File). same_word file.name name) files
 
--- the file of that name; where there is none, an empty one, at which no command looks
+-- the file of that name; if there is none, an empty one, which no command looks at
 abbrev pub file_of : List File → List ℕ → File
 file_of [] name = new_file name [] []
 file_of (file ∷ files) name = if same_word file.name name then file else file_of files name
@@ -45,10 +45,10 @@ file_of (file ∷ files) name = if same_word file.name name then file else file_
 abbrev pub file_added : State → File → State
 file_added s file = record s { files = insert_key file_cmp s.files file }
 
--- all files but that of this name
+-- all files except that of this name
 abbrev pub file_removed : State → List ℕ → State
 file_removed s name = record s { files = filter (λ (file : File). not (same_word file.name name)) s.files }
 
--- with a file in the place of that of this name
+-- with a file instead of that of this name
 abbrev pub file_replaced : State → List ℕ → File → State
 file_replaced s name file = file_added (file_removed s name) file

@@ -7,7 +7,7 @@ use Rattle.lis_transducers.specs.Mail.{mail_words}
 use Rattle.lis_transducers.specs.Source.{source_words}
 use Rattle.lis_model.specs.Noted.{noted_all}
 
--- what stands behind the last full stop
+-- what follows the last full stop
 abbrev pub behind_stop : List ℕ → Option (List ℕ)
 behind_stop [] = None
 behind_stop (b ∷ bytes) = if list_any (λ c. c == 46) bytes then behind_stop bytes else if b == 46 then Some bytes else None
@@ -16,7 +16,7 @@ abbrev pub some_bytes : Option (List ℕ) → Option (List ℕ)
 some_bytes None = None
 some_bytes (Some bytes) = if length bytes == 0 then None else Some bytes
 
--- the bytes behind the last full stop of a name, where at least one byte stands before it and at least one behind it
+-- the bytes after the last full stop of a name, if at least one byte is before it and at least one after it
 abbrev pub suffix_of : List ℕ → Option (List ℕ)
 suffix_of [] = None
 suffix_of (b ∷ bytes) = some_bytes (behind_stop bytes)
@@ -32,7 +32,7 @@ size_word size =
     else if nat_lt size MEDIUM_FILE then codes "size:medium"
     else codes "size:large"
 
--- the suffix is this one; its case is judged
+-- the suffix is this one; case counts
 abbrev pub is_suffix : List ℕ → Option (List ℕ) → Bool
 is_suffix text None = false
 is_suffix text (Some suffix) = same_word suffix text

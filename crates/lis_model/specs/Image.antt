@@ -1,5 +1,5 @@
--- The parts of an image, in blocks of 4,096 bytes: the super block, the gate block and 576 blocks of the record, which make the first
--- 578; and then property slots, axiom slots, file slots, extension rows, the bitmap and the data blocks.
+-- The parts of an image, in blocks of 4,096 bytes: the super block, the gate block and 576 blocks of records, which make the first 578; and
+-- then property slots, axiom slots, file slots, extension rows, the bitmap and the data blocks.
 use Rattle.std.specs.Prelude.{◌-◌, ℕ, ◌+◌, ◌*◌, ◌/◌}
 use Rattle.lis_limits.specs.declared.TheConstants.{AXIOMS_PER_BLOCK, BLOCK_BITS, FILES_PER_BLOCK, PROPERTIES_PER_BLOCK, PROPERTIES_START}
 use Rattle.lis_model.specs.declared.limits.Limits.{Limits}

@@ -14,14 +14,14 @@ holds (Negation f) file = not (holds f file)
 holds (Both f g) file = holds f file && holds g file
 holds (Either f g) file = holds f file || holds g file
 
--- a place holds where each of its steps does
+-- a place holds if each of its steps does
 abbrev pub holds_all : List Formula → Entry → Bool
 holds_all place file = list_all (λ step. holds step file) place
 
 abbrev pub extension : Table → List Formula → List Entry
 extension t place = filter (holds_all place) t.files
 
--- some of the files has the word, and some lacks it: with it they are fewer, and not none
+-- some file has the word, and some file lacks it: with the word there are fewer files, and not none
 abbrev pub is_candidate : List Entry → List ℕ → Bool
 is_candidate files word =
     list_any (λ (file : Entry). has_word file.words word) files && list_any (λ (file : Entry). not (has_word file.words word)) files
@@ -34,7 +34,7 @@ is_above t files p q = entails t p q && not (same_word q p) && is_candidate file
 abbrev pub is_increment : Table → List Entry → List ℕ → Bool
 is_increment t files p = is_candidate files p && not (list_any (is_above t files p) t.known)
 
--- the most general words that strictly and not emptily refine the place, in byte order
+-- the most general words that narrow the place to fewer files and not to none, in byte order
 abbrev pub increments : Table → List Formula → List (List ℕ)
 increments t place = filter (is_increment t (extension t place)) t.known
 

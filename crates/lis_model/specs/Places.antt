@@ -27,7 +27,7 @@ abbrev pub all_conjuncts : List Formula → Option (List (List ℕ))
 all_conjuncts [] = Some []
 all_conjuncts (step ∷ steps) = both_lists (conjuncts step) (all_conjuncts steps)
 
--- the set of the place's words, where its formula has only conjunctions and words
+-- the set of the place's words, if its formula has only conjunctions and words
 abbrev pub place_words : List Formula → Option (List (List ℕ))
 place_words place = option_map set_of (all_conjuncts place)
 

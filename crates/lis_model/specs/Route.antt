@@ -23,8 +23,8 @@ route_within (suc n) t place file =
     if is_local (extension t place) file then []
     else word_then (first_increment t place file) (λ p. route_within n t (place ++ step_of p ∷ []) file)
 
--- The increments that lead to a file: none where it is a local, else the first increment that it has, and the route from there. There are
--- fewer of them than files in the extension.
+-- The increments that lead to a file: none if it is a local, and otherwise the first increment that it has, and the route from there. There
+-- are fewer of them than files in the extension.
 abbrev pub route : Table → List Formula → Entry → List (List ℕ)
 route t place file = route_within (length (extension t place)) t place file
 
@@ -36,7 +36,7 @@ IsRoute t place file (p ∷ words) =
     × (first_increment t place file ≡ Some p)
     × IsRoute t (place ++ step_of p ∷ []) file words
 
--- each word is an increment of the formula reached by then, the file is in the extension of each formula on the route, and a local at its end
+-- each word is an increment of the place reached by then, the file is in the extension of each place on the route, and a local at its end
 abbrev pub Leads : Table → List Formula → Entry → List (List ℕ) → Type 0
 Leads t place file [] = Contains (locals t place) file
 Leads t place file (p ∷ words) =

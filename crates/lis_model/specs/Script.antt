@@ -11,7 +11,7 @@ use Rattle.lis_model.specs.declared.command.Command.TheVariants.{Mkdir, Rmdir, A
 use Rattle.lis_model.specs.Step.{Item, Payload, no_payload}
 use Rattle.lis_model.specs.Step.Item.{Do, Bad}
 
--- what stands before the first line feed, and what stands behind it
+-- what is before the first line feed, and what is after it
 abbrev pub before_feed : List ℕ → List ℕ
 before_feed [] = []
 before_feed (b ∷ bytes) = if is_feed b then [] else b ∷ before_feed bytes
@@ -33,7 +33,7 @@ words_of text = filter is_some_bytes (pieces_on [] text)
 abbrev pub bad_line : Item
 bad_line = Bad BadLine
 
--- one word behind the first, which fits, and two that each fit
+-- one word after the first, which fits, and two that each fit
 abbrev pub one_word_form : (List ℕ → Bool) → (List ℕ → Item) → List (List ℕ) → Item
 one_word_form fits item [] = bad_line
 one_word_form fits item (word ∷ []) = if fits word then item word else bad_line
@@ -49,7 +49,7 @@ two_words_form fits_left fits_right item (left ∷ right ∷ more ∷ words) = b
 abbrev pub any_word : List ℕ → Bool
 any_word word = true
 
--- words that a file is to be given: at most 16 in one line
+-- words to give to a file: at most 16 in one line
 abbrev pub tags_form : List (List ℕ) → Result (List (List ℕ)) Refusal
 tags_form words =
     if list_all is_property words then (if nat_lt MAX_ASSIGNED (length words) then Err TooManyAssigned else Ok words) else Err BadLine
@@ -64,14 +64,14 @@ create_form [] = bad_line
 create_form (name ∷ words) =
     if is_file_name name then with_tags (λ tags. Do (Create name tags) no_payload) (tags_form words) else bad_line
 
--- a file's name, how many bytes it is to have, and words
+-- a file's name, how many bytes it must have, and words
 abbrev pub add_form : List (List ℕ) → Payload → Item
 add_form [] payload = bad_line
 add_form (name ∷ []) payload = bad_line
 add_form (name ∷ size ∷ words) payload =
     if is_file_name name && is_count size then with_tags (λ tags. Do (Add name tags) payload) (tags_form words) else bad_line
 
--- no word behind the first
+-- no word after the first
 abbrev pub alone_form : Item → List (List ℕ) → Item
 alone_form item [] = item
 alone_form item (word ∷ words) = bad_line
@@ -98,7 +98,7 @@ form_of first words payload =
     else if same_word first (codes "stat") then alone_form (Do Stat no_payload) words
     else bad_line
 
--- a line without words asks for nothing
+-- a line without words requests nothing
 abbrev pub item_of_words : List (List ℕ) → Payload → Option Item
 item_of_words [] payload = None
 item_of_words (first ∷ words) payload = Some (form_of first words payload)
@@ -110,11 +110,11 @@ is_long text = nat_lt MAX_LINE (length text)
 abbrev pub line_words : List ℕ → List (List ℕ)
 line_words text = words_of (without_return text)
 
--- what a line asks for, given what stands before its line feed, and the payload behind it
+-- what a line requests, by what is before its line feed, and the payload after it
 abbrev pub item_of : List ℕ → Payload → Option Item
 item_of text payload = if is_long text then Some (Bad LongLine) else item_of_words (line_words text) payload
 
--- How many bytes are to follow a line of these words, whatever else is in it: the first is `add` or `write`, and the third a count.
+-- How many bytes must follow a line of these words, whatever else is in it: the first is `add` or `write`, and the third a count.
 abbrev pub size_of_words : List (List ℕ) → Option ℕ
 size_of_words [] = None
 size_of_words (first ∷ []) = None
@@ -130,11 +130,11 @@ payload_size text = if is_long text then None else size_of_words (line_words tex
 abbrev pub payload_limit : ℕ
 payload_limit = MAX_PAYLOAD
 
--- of a larger payload its size alone is kept
+-- of a larger payload only its size is kept
 abbrev pub payload_of : ℕ → List ℕ → Payload
 payload_of size bytes = record { size = size; bytes = if nat_le size payload_limit then bytes else [] }
 
--- the first segment of an input: what it asks for, what is left behind it, and whether it ended with its own line feed
+-- the first segment of an input: what it requests, what is left after it, and whether it ended with its own line feed
 pub record FirstOf (I : Type 0) : Type 0 where
   pub item : Option I
   pub rest : List ℕ
@@ -143,14 +143,14 @@ pub record FirstOf (I : Type 0) : Type 0 where
 abbrev pub First : Type 0
 First = FirstOf Item
 
--- Behind a payload: nothing, at the end of the input; or a line feed. Else all is dropped up to the next line feed, and with it.
+-- After a payload comes the end of the input, or a line feed. Otherwise all is dropped up to the next line feed, and with it.
 abbrev pub first_ended : Option Item → List ℕ → First
 first_ended item [] = record { item = item; rest = []; is_whole = false }
 first_ended item (b ∷ bytes) =
     if is_feed b then record { item = item; rest = bytes; is_whole = true }
     else record { item = Some (Bad PayloadEnd); rest = after_feed bytes; is_whole = list_any is_feed bytes }
 
--- a line with the bytes behind it, of which so many are its payload
+-- a line with the bytes after it, the first `size` of which are its payload
 abbrev pub first_with : List ℕ → ℕ → List ℕ → First
 first_with text size bytes =
     if nat_lt (length bytes) size then record { item = Some (Bad CutPayload); rest = []; is_whole = false }
@@ -167,15 +167,15 @@ first_by (Some size) bytes = first_with (before_feed bytes) size (after_feed byt
 abbrev pub first_of : List ℕ → First
 first_of bytes = first_by (payload_size (before_feed bytes)) bytes
 
--- The items of an input, taken one after another, where `first` tells its first segment: at most as many as there are bytes, since each takes one
--- byte at least.
+-- The items of an input in sequence, if `first` gives its first segment. There are at most as many as there are bytes, since each takes at
+-- least one byte.
 abbrev pub items_within : {I : Type 0} → (List ℕ → FirstOf I) → ℕ → List ℕ → List I
 items_within first zero bytes = []
 items_within first (suc n) [] = []
 items_within first (suc n) (b ∷ bytes) =
     option_to_list (first (b ∷ bytes)).item ++ items_within first n (first (b ∷ bytes)).rest
 
--- the same, up to the first segment that has no line feed of its own
+-- the same, up to the first segment that does not end with its own line feed
 abbrev pub whole_within : {I : Type 0} → (List ℕ → FirstOf I) → ℕ → List ℕ → List I
 whole_within first zero bytes = []
 whole_within first (suc n) [] = []
@@ -188,7 +188,7 @@ pub record Cut (I : Type 0) : Type 0 where
   pub all : List ℕ → List I
   pub whole : List ℕ → List I
 
--- All items, where the input has at most `limit` bytes; else those that are whole in the first `limit` bytes.
+-- All items, if the input has at most `limit` bytes; otherwise those that are whole in the first `limit` bytes.
 abbrev pub script_by : {I : Type 0} → Cut I → List ℕ → ℕ → List I
 script_by cut bytes limit = if nat_le (length bytes) limit then cut.all bytes else cut.whole (take limit bytes)
 

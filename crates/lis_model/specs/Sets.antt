@@ -1,11 +1,11 @@
--- Sets of words: lists in byte order, without repeats; and lists of numbers: of two bytes, and of which none stands twice.
+-- Sets of words: lists in byte order, without repeats. Lists of numbers: of two bytes each, and without repeats.
 use Rattle.std.specs.Prelude.{ℕ, ◌==◌, ◌^◌, nat_lt, Bool, true, not, ◌&&◌, List, [], ◌∷◌}
 use Rattle.std.specs.BTreeSet.{insert_key}
 use Rattle.std.specs.List.{list_all, list_any}
 use Rattle.lis_graph.specs.Graph.{with_more}
 use Rattle.lis_words.specs.Words.{word_cmp}
 
--- the set, with one word more
+-- the set, with one more word
 abbrev pub with_word : List (List ℕ) → List ℕ → List (List ℕ)
 with_word words word = insert_key word_cmp words word
 
@@ -25,7 +25,7 @@ are_short ns = list_all (λ n. nat_lt n (2 ^ 16)) ns
 abbrev pub has_number : List ℕ → ℕ → Bool
 has_number ns n = list_any (λ m. m == n) ns
 
--- no number stands twice
+-- no number occurs twice
 abbrev pub are_distinct : List ℕ → Bool
 are_distinct [] = true
 are_distinct (n ∷ ns) = not (has_number ns n) && are_distinct ns

@@ -1,4 +1,4 @@
--- What is kept: declared words, axioms and files, and the description of a file.
+-- What a state has: declared words, axioms and files, and the description of a file.
 use Rattle.std.specs.Prelude.{◌-◌, ℕ, ◌+◌, ◌/◌, ◌==◌, ◌≤◌, nat_lt, nat_le, Bool, not, ◌&&◌, ◌||◌, if◌then◌else◌, List, [], ◌∷◌, ◌++◌, length, map, sum, IsTrue}
 use Rattle.std.specs.List.{list_all, flat_map}
 use Rattle.std.specs.declared.cmp.Ordering.{Ordering}
@@ -16,7 +16,7 @@ use Rattle.lis_model.specs.Tests.{weaker_tests, met_tests}
 pub record File : Type 0 where
   pub name : List ℕ
   pub bytes : List ℕ
-  -- the words that the user gave it, a set
+  -- the words that were assigned to it, a set
   pub assigned : List (List ℕ)
 
 pub record State : Type 0 where
@@ -35,7 +35,7 @@ empty_state limits = record { limits = limits; declared = []; axioms = []; files
 abbrev pub heads : List ℕ → List (List ℕ)
 heads word = if is_valued word then head_bytes word ∷ [] else []
 
--- what a word leads to by itself: its head, and the declared tests that are weaker
+-- a word's own links: to its head, and to the declared tests that are weaker
 abbrev pub links : List (List ℕ) → List ℕ → List (List ℕ)
 links declared word = heads word ++ weaker_tests declared word
 
@@ -60,7 +60,7 @@ is_acyclic declared axioms = graph.is_acyclic same_word word_cmp (links declared
 abbrev pub all_up : List (List ℕ) → List (List ℕ × List ℕ) → List (List ℕ) → List (List ℕ)
 all_up declared axioms words = set_of (flat_map (up declared axioms) words)
 
--- the words that a file has by itself: those it was given, those derived from its name and bytes, and the declared tests that it meets
+-- a file's own words: those assigned to it, those derived from its name and bytes, and the declared tests that it meets
 abbrev pub own_words : List (List ℕ) → File → List (List ℕ)
 own_words declared file = file.assigned ++ derived_words file.name file.bytes ++ met_tests declared (length file.bytes)
 
@@ -106,11 +106,11 @@ file_cmp a b = word_cmp a.name b.name
 abbrev pub file_limit : ℕ → ℕ
 file_limit version = if version == 2 then MAX_LARGE_FILE else MAX_FILE
 
--- how many blocks so many bytes take
+-- how many blocks this many bytes fill
 abbrev pub blocks_needed : ℕ → ℕ
 blocks_needed bytes = (bytes + (BLOCK_LEN - 1)) / BLOCK_LEN
 
--- with the block that numbers them, which version 2 has where they are more than 16
+-- how many blocks they take: those, and in version 2 one more, which numbers them, if they are more than 16
 abbrev pub blocks_taken : ℕ → ℕ → ℕ
 blocks_taken version bytes = if (version == 2) && nat_lt SLOT_BLOCKS (blocks_needed bytes) then blocks_needed bytes + 1 else blocks_needed bytes
 
@@ -118,7 +118,7 @@ blocks_taken version bytes = if (version == 2) && nat_lt SLOT_BLOCKS (blocks_nee
 abbrev pub used_blocks : State → ℕ
 used_blocks s = sum (map (λ (file : File). blocks_taken s.limits.version (length file.bytes)) s.files)
 
--- the axioms speak of what is there, and lead in no circle
+-- the axioms are of words that may be their sides, and make no cycle
 pub record AxiomsAreFormed (s : State) : Type 0 where
   pub rights : IsTrue (list_all (λ pair. is_plain_word pair.1 && has_word s.declared pair.1) s.axioms)
   pub lefts : IsTrue (list_all (λ pair. is_nameable s.declared pair.0) s.axioms)

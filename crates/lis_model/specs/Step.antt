@@ -1,5 +1,5 @@
--- What a command does: the new state and place, and the reply. Each command has a row of conditions under which it is refused, in their order; those on
--- the state that it would give are told of `made`.
+-- What a command does: the new state and place, and the reply. Each command has a row of conditions under which it is refused, in their
+-- order. The state that it would give is `made` in the conditions on that state.
 use Rattle.std.specs.Prelude.{ℕ, ◌+◌, ◌-◌, ◌==◌, nat_lt, nat_le, Bool, false, not, ◌&&◌, ◌||◌, if◌then◌else◌, is_some, unwrap_or, option_map, Option, Some, None, List, [], ◌∷◌, ◌++◌, length, map, filter, codes}
 use Rattle.std.specs.List.{list_any, list_all, flat_map}
 use Rattle.lis_limits.specs.declared.TheConstants.{MAX_ASSIGNED, MAX_DESCRIPTION}
@@ -22,7 +22,7 @@ use Rattle.lis_model.specs.Listing.{extension, increments, locals}
 use Rattle.lis_model.specs.Route.{route}
 use Rattle.lis_model.specs.Replies.{body_line, number_line, ok_line, refusal_line, listing_lines, content_lines, word_letter, property_letter, place_letter}
 
--- a state, and the place at which commands are said, or the places where there are several
+-- a state, and the place at which commands run, or the places if there are several
 pub record SituationOf (P : Type 0) : Type 0 where
   pub state : State
   pub place : P
@@ -38,7 +38,7 @@ Situation = SituationOf (List Formula)
 abbrev pub Outcome : Type 0
 Outcome = OutcomeOf (List Formula)
 
--- the bytes that come behind a command's line: how many, and the bytes themselves where they are at most `payload_limit`
+-- the bytes that follow a command's line: how many, and the bytes themselves if there are at most `payload_limit`
 pub record Payload : Type 0 where
   pub size : ℕ
   pub bytes : List ℕ
@@ -46,7 +46,7 @@ pub record Payload : Type 0 where
 abbrev pub no_payload : Payload
 no_payload = record { size = 0; bytes = [] }
 
--- what one segment of the input asks for: a command with its payload, or nothing that can be done
+-- what one segment of the input requests: a command with its payload, or a refusal
 pub data Item : Type 0 where
   Do : Command → Payload → Item
   Bad : Refusal → Item
@@ -66,7 +66,7 @@ changed now state = record { next = record { state = state; place = now.place };
 abbrev pub shown : Situation → List ℕ → Outcome
 shown now body = record { next = now; reply = body ++ ok_line }
 
--- the first refusal of a row whose condition holds, and else what the command does
+-- the first refusal of a row whose condition holds, and otherwise what the command does
 abbrev pub judged : Situation → List (Bool × Refusal) → Outcome → Outcome
 judged now [] done = done
 judged now (check ∷ checks) done = if check.0 then refused now check.1 else judged now checks done
@@ -76,7 +76,7 @@ abbrev pub first_refusal : List (Bool × Refusal) → Option Refusal
 first_refusal [] = None
 first_refusal (check ∷ checks) = if check.0 then Some check.1 else first_refusal checks
 
--- ---- what rows ask
+-- ---- conditions of rows
 -- there would be more than there is room for
 abbrev pub exceeds_axioms : State → Bool
 exceeds_axioms s = nat_lt s.limits.props (length s.axioms)
@@ -87,7 +87,7 @@ exceeds_known s = nat_lt s.limits.props (length (known s))
 abbrev pub exceeds_words : State → Bool
 exceeds_words s = list_any (λ (file : File). nat_lt MAX_DESCRIPTION (length (description s file))) s.files
 
--- the words of a place, and those that a file in it can be given; none where it has none
+-- the words of a place, and its tags; none if it is no place of words
 abbrev pub words_at : List Formula → List (List ℕ)
 words_at place = unwrap_or (place_words place) []
 
@@ -141,7 +141,7 @@ is_side s word = has_word (map (λ pair. pair.0) s.axioms ++ map (λ pair. pair.
 abbrev pub is_had : State → List ℕ → Bool
 is_had s word = has_word (flat_map (λ pair. heads pair.0) s.axioms ++ flat_map (description s) s.files) word
 
--- a test is in files by its size alone, and goes with its declaration
+-- a file has a test by its size alone, and loses it with the declaration
 abbrev pub is_in_use : State → List ℕ → Bool
 is_in_use s word = is_side s word || (not (is_test word) && is_had s word)
 
@@ -265,7 +265,7 @@ mv_to now old text BeyondLimits = refused now LargeFormula
 mv_to now old text (NewPlace place) =
     mv_with now place (text_words text) old (new_file old.name (retagged old.assigned (tags_at now.place) (tags_at place)) old.bytes)
 
--- the file loses the tags of the place, and gains those of the place that a text makes of it
+-- the file loses the tags of the place, and gains those of the place that a text resolves to
 abbrev pub mv : Situation → List ℕ → List ℕ → Outcome
 mv now name text = mv_to now (file_of now.state.files name) text (resolved now.place text)
 
@@ -304,7 +304,7 @@ way now name = shown_here now name (flat_map (body_line word_letter) (route (tab
 abbrev pub moved : Situation → List Formula → Outcome
 moved now place = record { next = record { state = now.state; place = place }; reply = ok_line }
 
--- to the place that a text makes of the place, where each word of the text is known
+-- to the place that a text resolves to, if each word of the text is known
 abbrev pub cd_to : Situation → List ℕ → Resolution → Outcome
 cd_to now text Unreadable = refused now BadFormula
 cd_to now text BeyondLimits = refused now LargeFormula
@@ -355,7 +355,7 @@ unfoldable pub step : Situation → Item → Outcome
 step now (Do command payload) = done now command payload
 step now (Bad refusal) = refused now refusal
 
--- all replies to these items, one after another, where `by` tells what each of them does
+-- all replies to these items, in sequence; `by` says what each of them does
 abbrev pub replies_by : {P I : Type 0} → (SituationOf P → I → OutcomeOf P) → SituationOf P → List I → List ℕ
 replies_by by now [] = []
 replies_by by now (item ∷ items) = (by now item).reply ++ replies_by by (by now item).next items

@@ -62,7 +62,7 @@ impl Tags {
         self.words.as_slice()
     }
 
-    /// The word at place `k`, counted from 0. None comes exactly where there is none.
+    /// The word at index `k`, counted from 0. None exactly if there is none.
     pub fn word(&self, k: u32) -> Option<Word>
         ensures { result ≡ slice_get self.now k }
     {
@@ -73,32 +73,32 @@ impl Tags {
     }
 }
 
-/// What a line asks for.
+/// What a line requests.
 #[derive(Drop, Debug)]
 pub enum Command {
     /// Declares the word, with an axiom to each word of the place.
     Mkdir(Word),
-    /// Takes the word's declaration back.
+    /// Removes the declaration of the word.
     Rmdir(Word),
     /// Lets the first word entail the second.
     Axiom(Word, Word),
-    /// Takes this axiom back.
+    /// Removes this axiom.
     Unaxiom(Word, Word),
     /// Makes an empty file of that name with these words, and with those of the place.
     Create(Name, Tags),
-    /// Makes a file of that name as `Create` does; its bytes are the payload behind the line.
+    /// Makes a file of that name as `Create` does; its bytes are the payload after the line.
     Add(Name, Tags),
-    /// Puts the payload behind the line in the place of the bytes of the file of that name.
+    /// Replaces the bytes of the file of that name by the payload after the line.
     Write(Name),
     /// Shows the bytes of the file of that name.
     Cat(Name),
-    /// Takes the tags of the place from the file of that name, and gives it those of the place that the text makes of it.
+    /// Removes the tags of the place from the file of that name, and gives it those of the place that the text resolves to.
     Mv(Name, Text),
-    /// Gives the file of the first name the second one.
+    /// Gives the file of the first name the second name.
     Rename(Name, Name),
     /// Removes the file of that name.
     Rm(Name),
-    /// Goes to the place that the text makes of the place.
+    /// Goes to the place that the text resolves to.
     Cd(Text),
     /// Shows the place.
     Pwd,

@@ -56,7 +56,7 @@ impl Derived {
         self.words.as_slice().iter().any(|held| held == word)
     }
 
-    /// Appends the word where it is not there and fewer than 48 are; else it changes nothing.
+    /// Appends the word if it is not there and fewer than 48 are; otherwise it changes nothing.
     pub fn note(&mut self, word: &Word)
         ensures { self.new ≡ noted self.old word.now }
     {
@@ -69,7 +69,7 @@ impl Derived {
         self.words.push(word.copied());
     }
 
-    /// The same words, without memory taken: unlike `clone`, it can't fail.
+    /// The same words, without an allocation: unlike `clone`, it can't fail.
     pub fn copied(&self) -> Derived
         ensures { result ≡ self.now }
     {
@@ -89,7 +89,7 @@ impl Derived {
         self.words.as_slice()
     }
 
-    /// The word at place `k`, counted from 0. None comes exactly where there is none.
+    /// The word at index `k`, counted from 0. None exactly if there is none.
     pub fn word(&self, k: u32) -> Option<Word>
         ensures { result ≡ slice_get self.now k }
     {

@@ -21,7 +21,7 @@ pub struct Limits {
     pub version: u32,
 }
 
-/// Whether so many files are in range.
+/// Whether this number of files is in range.
 pub fn is_files_limit(files: u64) -> bool
     ensures { result ≡ is_files_limit files }
 {
@@ -34,14 +34,14 @@ pub fn is_files_limit(files: u64) -> bool
         || files == 4_096
 }
 
-/// Whether so many properties are in range.
+/// Whether this number of properties is in range.
 pub fn is_props_limit(props: u64) -> bool
     ensures { result ≡ is_props_limit props }
 {
     64 <= props && props <= u64::from(MAX_PROPS) && props % 64 == 0
 }
 
-/// Whether so many data blocks are in range.
+/// Whether this number of data blocks is in range.
 pub fn is_blocks_limit(blocks: u64) -> bool
     ensures { result ≡ is_blocks_limit blocks }
 {

@@ -5,7 +5,7 @@ ghost use Rattle.lis_model.specs.Tests.{is_met};
 
 use lis_words::Test;
 
-/// Whether so many bytes meet the test. Nothing meets no test.
+/// Whether this many bytes meet the test. Nothing meets `None`.
 pub fn is_met(test: Option<Test>, size: u64) -> bool
     ensures { result ≡ is_met test size }
 {

@@ -5,7 +5,7 @@
 pub enum Spot {
     /// The super block.
     Super,
-    /// The block that counts the blocks of a record.
+    /// The block in which the first malformed open record begins.
     BadRecord(u32),
     /// A property slot.
     Property(u32),

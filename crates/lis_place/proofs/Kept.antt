@@ -1,4 +1,4 @@
--- What a place keeps, and the steps that it stands for.
+-- What a place keeps, and the steps that it represents.
 use Rattle.std.proofs.Common.{◌≡◌, ◌+◌, ◌<◌, true, false, Some, List, ◌++◌, length, ap, sym, subst, ◌∙◌, arith, length-append}
 use Rattle.std.proofs.lemmas.Bool.{false≢true}
 use Rattle.lis_grammar.specs.Formula.{Formula}

@@ -1,4 +1,4 @@
--- What nodes in order give on a stack: the trees that they spell, or whatever is computed of these.
+-- What nodes in order make on a stack: the trees that they spell, or whatever is computed from these.
 use Rattle.std.proofs.Common.{◌≡◌, ℕ, List, [], ◌∷◌, ◌++◌, map, reverse, refl, ap, sym, ◌∙◌, append_assoc, append-nil}
 use Rattle.std.specs.List.{flat_map, fold}
 use Rattle.std.proofs.lemmas.List.{reverse-append, reverse-reverse, map-id}

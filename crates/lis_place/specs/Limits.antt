@@ -19,7 +19,7 @@ with_mark tally = if nat_le 1 tally.trees then Some (record { trees = tally.tree
 abbrev pub with_joint : Tally → Option Tally
 with_joint tally = if nat_le 2 tally.trees then Some (record { trees = tally.trees - 1; bytes = tally.bytes + 3 }) else None
 
--- None where an operand is missing, or a number is too large
+-- None if an operand is missing, or a number is too large
 abbrev pub tally_with : Tally → Node → Option Tally
 tally_with tally (Word word) = if is_word word then with_operand tally (length word) else None
 tally_with tally (AtLeast n) = with_test tally 6 n
@@ -35,7 +35,7 @@ tally_after tally (node ∷ nodes) = option_and_then (λ next. tally_after next 
 abbrev pub no_tally : Tally
 no_tally = record { trees = 0; bytes = 0 }
 
--- between two steps stands a slash, which is a node of the place's formula and a byte of its text
+-- a slash is between two steps: it is a node of the place's formula and a byte of its text
 abbrev pub is_within : ℕ → Option Tally → Bool
 is_within count None = false
 is_within count (Some tally) =

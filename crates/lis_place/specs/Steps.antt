@@ -3,7 +3,7 @@ use Rattle.std.specs.Prelude.{ℕ, ◌+◌, zero, suc, List, [], ◌∷◌, reve
 use Rattle.lis_place.specs.declared.node.Node.{Node}
 use Rattle.lis_place.specs.declared.node.Node.TheVariants.{Word, AtLeast, Below, Not, And, Or}
 
--- how many trees stand before a node as its operands
+-- how many trees before a node are its operands
 abbrev pub operands : Node → ℕ
 operands (Word word) = 0
 operands (AtLeast n) = 0
@@ -12,7 +12,7 @@ operands Not = 1
 operands And = 2
 operands Or = 2
 
--- what stands before so many trees, all from the end
+-- what is before this many trees, all read from the end
 abbrev pub before_trees : ℕ → List Node → List Node
 before_trees zero nodes = nodes
 before_trees (suc wanted) [] = []

@@ -1,4 +1,4 @@
-//! Places: formulas as lists of nodes within limits, the paths that formula texts read to, and texts.
+//! Places: formulas as lists of nodes within limits, the paths that formula texts read as, and texts.
 #![tactic(auto)]
 
 mod limits;

@@ -43,7 +43,7 @@ impl Tally {
         })
     }
 
-    /// A word that no formula may have, as a test is, makes no tree.
+    /// A word that no formula may have, such as a test, makes no tree.
     fn with_word(self, word: &Word) -> Option<Tally>
         requires trees { self.trees ≤ MAX_NODES }
         requires sum { self.bytes ≤ MAX_WORD * MAX_NODES }

@@ -9,7 +9,7 @@ use lis_words::Word;
 pub enum Node {
     /// The description has the word.
     Word(Word),
-    /// The file has at least so many bytes.
+    /// The file has at least this many bytes.
     AtLeast(u64),
     /// The file has fewer bytes than this.
     Below(u64),
@@ -21,7 +21,7 @@ pub enum Node {
     Or,
 }
 
-/// The node `Not`, for a container of fixed capacity that wants a value to begin with.
+/// The node `Not`, for a container of fixed capacity that needs an initial value.
 impl Default for Node {
     ghost use Rattle.lis_place.specs.declared.node.Node.TheVariants.{Not};
 
@@ -33,7 +33,7 @@ impl Default for Node {
 }
 
 impl Node {
-    /// The same node, without memory taken.
+    /// The same node, without an allocation.
     pub fn copied(&self) -> Node
         ensures { result ≡ self.now }
     {

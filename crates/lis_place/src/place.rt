@@ -13,8 +13,8 @@ use arrayvec::ArrayVec;
 use lis_limits::MAX_NODES;
 use std::marker::Model;
 
-/// A place: a list of steps, each a tree of nodes, which stands for the files of which all steps hold. It has at most 64
-/// nodes and prints to at most 1,024 bytes, and the numbers of its tests are below 10^12.
+/// A place: a list of steps, each a tree of nodes. It represents the files of which all steps hold. It has at most 64 nodes and prints to
+/// at most 1,024 bytes, and the numbers of its tests are below 10^12.
 #[derive(Drop, Debug)]
 pub struct Place {
     nodes: ArrayVec<Node, MAX_NODES>,
@@ -37,14 +37,14 @@ impl Model for Place {
     ghost invariant = { λ p. IsTrue (are_place p.nodes.items) };
 }
 
-/// What a formula text reads to: a place from the root, or from the place where it is read.
+/// What a formula text reads as: a place from the root, or from the place where it is read.
 #[derive(Drop, Debug)]
 pub struct Path {
     pub rooted: bool,
     pub place: Place,
 }
 
-/// Puts copies of the nodes behind those that are held.
+/// Appends copies of the nodes to those that are held.
 fn extend(held: &mut ArrayVec<Node, MAX_NODES>, nodes: &[Node])
     requires { array_vec_len held.old + length nodes.now ≤ MAX_NODES }
     ensures { held.new.items ≡ held.old.items ++ nodes.now }
@@ -54,7 +54,7 @@ fn extend(held: &mut ArrayVec<Node, MAX_NODES>, nodes: &[Node])
     }
 }
 
-/// How many trees stand before the node as its operands.
+/// How many trees before the node are its operands.
 fn operands(node: &Node) -> usize
     ensures value { result ≡ operands node.now }
     ensures few { result ≤ 2 }
@@ -91,7 +91,7 @@ impl Place {
         }
     }
 
-    /// The place of these nodes. None comes exactly where they are the nodes of no place.
+    /// The place of these nodes. None exactly if they are the nodes of no place.
     pub fn of(nodes: &[Node]) -> Option<Place>
         ensures nodes { MatchOption result
             ((steps : List Formula) → IsPlace steps → nodes.now ≡ nodes_of steps → ⊥)
@@ -129,7 +129,7 @@ impl Place {
         self.len() == 0
     }
 
-    /// The same place, without memory taken.
+    /// The same place, without an allocation.
     pub fn copied(&self) -> Place
         ensures { result ≡ self.now }
     {
@@ -148,7 +148,7 @@ impl Place {
         Place { nodes }
     }
 
-    /// The place with the steps of another behind its own. None comes exactly where these are no place together.
+    /// The place with the steps of another after its own. None exactly if these together are no place.
     pub fn appended(&self, more: &Place) -> Option<Place>
         ensures steps { MatchOption result
             (IsPlace (self.now ++ more.now) → ⊥)

@@ -1,4 +1,4 @@
-//! Texts, as they stand in an input line or are printed.
+//! Texts, as they come in an input line or are printed.
 
 ghost use Rattle.std.specs.Prelude.{◌≡◌, ◌==◌, ℕ, ◌<◌, ◌≤◌, List, length, MatchOption};
 
@@ -23,7 +23,7 @@ impl Model for Text {
 }
 
 impl Text {
-    /// The text of these bytes. None comes exactly where there are more than 1,024.
+    /// The text of these bytes. None exactly if there are more than 1,024.
     pub fn of(bytes: &[u8]) -> Option<Text>
         ensures { MatchOption result
             (MAX_FORMULA < length bytes.now)
@@ -57,7 +57,7 @@ impl Text {
         self.held.as_slice()
     }
 
-    /// The same text, without memory taken.
+    /// The same text, without an allocation.
     pub fn copied(&self) -> Text
         ensures { result ≡ self.now }
     {

@@ -16,7 +16,7 @@ always_unchanged {Q = Q} all same = record {
   leaves = λ image is. all.leaves image (same.images.only image is);
 }
 
--- after a sync there is the one image
+-- after a sync there is only one image
 pub settled_synced : {a b : Meaning} → IsSynced a b → IsSettled b a.bytes
 settled_synced synced = record {
   reads = synced.bytes;

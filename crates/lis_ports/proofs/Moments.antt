@@ -1,4 +1,4 @@
--- How moments of calls and runs in a row add up.
+-- How moments of calls and runs in sequence add up.
 use Rattle.std.proofs.Common.{◌⊎◌, ℕ, List, refl, sym, ◌∙◌, inl, inr, arith}
 use Rattle.lis_ports.specs.Meaning.{Meaning, Now}
 use Rattle.lis_ports.specs.Runs.{Adds, IsDiskRun, Leaves}
@@ -21,7 +21,7 @@ adds_weaken R ab weaker = record {
   keeps = ab.keeps;
 }
 
--- two runs in a row
+-- two runs in sequence
 pub adds_then : {a b c : Meaning} {P : List ℕ → List ℕ → Type 0} → Adds a b P → Adds b c P → Adds a c P
 adds_then ab bc = record {
   later = omega (arith, ab.later, bc.later);
@@ -30,7 +30,7 @@ adds_then ab bc = record {
   keeps = λ t image bytes le had. bc.keeps t image bytes (omega (arith, le, ab.later)) (ab.keeps t image bytes le had);
 }
 
--- each moment since then is one of then, or it has P
+-- each moment since the start of a run is one of its start, or it has P
 pub each_moment : {a b : Meaning} {P : List ℕ → List ℕ → Type 0} → Adds a b P → ((image bytes : List ℕ) → a.moments a.clock image bytes → Now a image bytes) → (image bytes : List ℕ) → b.moments a.clock image bytes → Now a image bytes ⊎ P image bytes
 each_moment {a} ab only_now image bytes had =
     either (ab.only a.clock image bytes (omega arith) had) (λ h. inl (only_now image bytes h)) (λ p. inr p)
@@ -73,7 +73,7 @@ leaves_weaken Q ab weaker = record {
   adds = adds_weaken _ ab.adds (λ image bytes p. (weaker image p.0, p.1));
 }
 
--- two runs in a row
+-- two runs in sequence
 pub leaves_then : {a b c : Meaning} {Q : List ℕ → Type 0} → Leaves a b Q → Leaves b c Q → Leaves a c Q
 leaves_then ab bc = record {
   run = run_then ab.run bc.run;

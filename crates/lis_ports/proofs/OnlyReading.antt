@@ -1,4 +1,4 @@
--- Runs that only read, one after another.
+-- Runs that only read, in sequence.
 use Rattle.std.proofs.Common.{refl, sym, ◌∙◌}
 use Rattle.lis_ports.specs.Meaning.{Meaning}
 use Rattle.lis_ports.specs.Runs.{IsDiskRun}

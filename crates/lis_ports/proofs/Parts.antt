@@ -3,19 +3,19 @@ use Rattle.std.proofs.Common.{◌≡◌, ◌⊎◌, ℕ, ◌+◌, ◌-◌, ◌�
 use Rattle.std.proofs.lemmas.List.{take-take, take_at, drop_at, drop-drop, drop-take, length-take-le}
 use Rattle.lis_ports.specs.Bytes.{part, put, Torn}
 
--- a range of m from `from` on and a range of n from `at` on have no place in common
+-- a range of m from `from` on and a range of n from `at` on have no index in common
 abbrev pub Apart : ℕ → ℕ → ℕ → ℕ → Type 0
 Apart at n from m = (from + m ≤ at) ⊎ (at + n ≤ from)
 
 pub torn_refl : (at n : ℕ) (xs : List ℕ) → Torn at n xs xs
 torn_refl at n xs = record { len = refl; before = refl; after = refl }
 
--- a part is the end of a front
+-- a part is the end of a prefix
 part-front : (from m at : ℕ) (xs : List ℕ) → from + m ≤ at → part from m xs ≡ drop from (take (from + m) (take at xs))
 part-front from m at xs le =
     sym (drop-take from m xs) ∙ ap (drop from) (sym (take-take (from + m) at xs le))
 
--- a part is the front of an end
+-- a part is a prefix of an end
 part-end : (from m at : ℕ) (xs : List ℕ) → at ≤ from → part from m xs ≡ take m (drop (from - at) (drop at xs))
 part-end from m at xs le =
     let e : at + (from - at) ≡ from = omega arith in
@@ -43,14 +43,14 @@ length-put xs at bytes le = omega (
   length-drop (at + length bytes) xs,
 )
 
--- the front, the new bytes and the rest of what stood behind the front
+-- the prefix, the new bytes and the rest of what followed the prefix
 pub put_between : (xs : List ℕ) (at : ℕ) (bytes : List ℕ) → take at xs ++ (bytes ++ drop (length bytes) (drop at xs)) ≡ put xs at bytes
 unfolding put
 put_between xs at bytes =
     sym (append_assoc (take at xs) bytes (drop (length bytes) (drop at xs)))
     ∙ ap (λ ys. take at xs ++ bytes ++ ys) (drop-drop (length bytes) at xs)
 
--- a written range is torn, and no more
+-- a written range is torn, and nothing else is
 pub torn-put : (xs : List ℕ) (at : ℕ) (bytes : List ℕ) → at + length bytes ≤ length xs → Torn at (length bytes) xs (put xs at bytes)
 unfolding put
 torn-put xs at bytes le =

@@ -2,9 +2,9 @@
 use Rattle.std.specs.Prelude.{◌≡◌, ℕ, ◌+◌, Bool, List, Option, Some}
 
 pub record Meaning : Type 1 where
-  -- It keeps the rules on content, and nobody else writes it. What is said of bytes and images below is said where this holds.
+  -- The disk keeps the rules on content, and nobody else writes it. What is stated of bytes and images below is stated only if this holds.
   pub is_honest : Bool
-  -- how many bytes it has
+  -- how many bytes the disk has
   pub len : ℕ
   -- the bytes as they read
   pub bytes : List ℕ
@@ -12,13 +12,13 @@ pub record Meaning : Type 1 where
   pub images : List ℕ → Type 0
   -- a number that does not fall
   pub clock : ℕ
-  -- It tells its moments.
+  -- The disk records its moments.
   pub is_recorded : Bool
   -- the moments since a time: an image that a crash could have left, with the bytes shown by then
   pub moments : ℕ → List ℕ → List ℕ → Type 0
-  -- the bytes shown so far, where they are told
+  -- the bytes shown so far, or none if they are not recorded
   pub shown : Option (List ℕ)
-  -- how often a call of the disk failed, and how often a call that shows
+  -- how many disk calls failed, and how many calls that show
   pub disk_faults : ℕ
   pub show_faults : ℕ
   -- how many calls had failed when the last one began

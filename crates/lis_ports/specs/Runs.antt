@@ -2,7 +2,7 @@
 use Rattle.std.specs.Prelude.{◌≡◌, ◌⊎◌, ℕ, ◌≤◌, List, Some}
 use Rattle.lis_ports.specs.Meaning.{Meaning}
 
--- Each moment that new has since a time that old knew is one that old had, or it has P. No moment is lost.
+-- Each moment that new has since a time up to the clock of old is one that old had, or it has P. No moment is lost.
 pub record Adds (old new : Meaning) (P : List ℕ → List ℕ → Type 0) : Type 0 where
   pub later : old.clock ≤ new.clock
   pub only : (t : ℕ) (image bytes : List ℕ) → t ≤ old.clock → new.moments t image bytes → old.moments t image bytes ⊎ P image bytes
@@ -23,12 +23,12 @@ pub record Leaves (old new : Meaning) (Q : List ℕ → Type 0) : Type 0 where
   pub run : IsDiskRun old new
   pub adds : Adds old new (λ image bytes. Q image × (old.shown ≡ Some bytes))
 
--- It reads as these bytes, and a crash leaves these.
+-- The disk reads as these bytes, and a crash leaves only these.
 pub record IsSettled (m : Meaning) (bytes : List ℕ) : Type 0 where
   pub reads : m.bytes ≡ bytes
   pub only : (image : List ℕ) → m.images image → image ≡ bytes
 
--- It reads as a list with Q, and a crash leaves only such lists.
+-- The disk reads as a list with Q, and a crash leaves only such lists.
 pub record Always (m : Meaning) (Q : List ℕ → Type 0) : Type 0 where
   pub reads : Q m.bytes
   pub leaves : (image : List ℕ) → m.images image → Q image

@@ -1,4 +1,4 @@
--- What was shown since a start, and moments told by it.
+-- What was shown since a start, and moments that are described by it.
 use Rattle.std.specs.Prelude.{◌≡◌, ℕ, List, ◌++◌, Option, Some, Result, IsTrue}
 use Rattle.std.specs.Io.KnownBytes.{append_known}
 use Rattle.lis_ports.specs.Meaning.{Meaning}
@@ -6,7 +6,7 @@ use Rattle.lis_ports.specs.Runs.{Adds}
 use Rattle.lis_ports.specs.Calls.{HasCause, StationFaultEnds, IsShowCall}
 use Rattle.lis_ports.specs.Shown.{Shows}
 
--- the bytes begin with the front
+-- the bytes begin with this prefix
 pub record Begins (front bytes : List ℕ) : Type 0 where
   pub rest : List ℕ
   pub is : bytes ≡ front ++ rest
@@ -15,7 +15,7 @@ pub record Begins (front bytes : List ℕ) : Type 0 where
 abbrev pub Since : Option (List ℕ) → (List ℕ → List ℕ → Type 0) → List ℕ → List ℕ → Type 0
 Since before P image bytes = (shown : List ℕ) × (append_known before shown ≡ Some bytes) × P image shown
 
--- A run of calls that show the piece: whole, or at a fault a front of it. The disk stays, and at each moment some front was shown.
+-- A run of calls that show the piece: all of it, or at a fault a prefix of it. The disk stays, and at each moment some prefix was shown.
 pub record IsShowRun {T E : Type 0} (old new : Meaning) (piece : List ℕ) (result : Result T E) : Type 0 where
   pub call : IsShowCall old new
   pub cause : HasCause old.show_faults new.show_faults result

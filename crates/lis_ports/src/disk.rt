@@ -1,4 +1,4 @@
-//! A disk by what a crash may leave of it, and a station that shows bytes beside it.
+//! A disk, by what a crash may leave of it, and a station: a disk that also shows bytes.
 
 ghost use Rattle.std.specs.Prelude.{◌≡◌, ◌+◌, ◌<◌, ◌≤◌, ℕ, List, length, take, IsTrue, IfOk, OnOk, OnErr, MatchResult};
 ghost use Rattle.std.specs.Io.KnownBytes.{append_known};
@@ -6,16 +6,16 @@ ghost use Rattle.lis_ports.specs.Meaning.{Meaning, Now, failed};
 ghost use Rattle.lis_ports.specs.Bytes.{part};
 ghost use Rattle.lis_ports.specs.Calls.{HasCause, IsDiskCall, Elapses, IsUnchanged, IsTorn, IsWritten, IsSynced, IsUnsynced, IsShowCall};
 
-/// A call of the outside failed. Its object counted the fault.
+/// A call to the disk, the input or the output failed. The object that was called counted the fault.
 #[derive(Clone, Copy, Debug, PartialEq, Eq)]
 pub struct Failed;
 
-/// A disk of fixed length. No call of it shows anything.
+/// A disk of fixed length. No disk call shows anything.
 pub trait Disk {
-    /// What it reads as, what a crash may leave, its moments and its counts of faults.
+    /// What the disk reads as, what a crash may leave, its moments and its counts of faults.
     ghost meaning: { Self → Meaning };
 
-    /// How many bytes it has.
+    /// How many bytes the disk has.
     fn len(&self) -> u64
         ensures { result ≡ (meaning self.now).len };
 
@@ -42,7 +42,7 @@ pub trait Disk {
         ensures synced { OnOk result (IsTrue (meaning self.old).is_honest → IsSynced (meaning self.old) (meaning self.new)) }
         ensures unsynced { OnErr result (IsTrue (meaning self.old).is_honest → IsUnsynced (meaning self.old) (meaning self.new)) };
 
-    /// The moments of now are among those since any earlier time, where they are told.
+    /// If the disk records its moments, those of now are among those since any earlier time.
     ghost counts_now: { (disk : Self) (t : ℕ) (image bytes : List ℕ) → IsTrue (meaning disk).is_recorded → t ≤ (meaning disk).clock
         → Now (meaning disk) image bytes → (meaning disk).moments t image bytes };
 
@@ -52,19 +52,19 @@ pub trait Disk {
     /// A moment since a later time is one since an earlier time.
     ghost since_earlier: { (disk : Self) (t u : ℕ) (image bytes : List ℕ) → t ≤ u → (meaning disk).moments u image bytes → (meaning disk).moments t image bytes };
 
-    /// The bytes as they read are one of the images, where these are told.
+    /// If the disk records its images, the bytes as they read are one of them.
     ghost reads_image: { (disk : Self) → IsTrue (meaning disk).is_recorded → (meaning disk).images (meaning disk).bytes };
 
-    /// It reads as many bytes as it has.
+    /// The bytes as they read are as many as the disk has.
     ghost reads_len: { (disk : Self) → IsTrue (meaning disk).is_honest → length (meaning disk).bytes ≡ (meaning disk).len };
 
-    /// Each image has as many bytes as it has.
+    /// Each image has as many bytes as the disk.
     ghost image_len: { (disk : Self) (image : List ℕ) → IsTrue (meaning disk).is_honest → (meaning disk).images image → length image ≡ (meaning disk).len };
 }
 
-/// A disk beside which bytes are shown. Its meaning is that of its disk.
+/// A disk that also shows bytes, as on an output. Its meaning is that of its disk.
 pub trait Station: Disk {
-    /// Shows some first bytes of the piece, at least one, and answers how many.
+    /// Shows some first bytes of the piece, at least one, and returns how many.
     fn show(&mut self, piece: &[u8]) -> Result<usize, Failed>
         requires { 0 < length piece.now }
         ensures count { IfOk result (λ n. (0 < n) × (n ≤ length piece.now)) }

@@ -1,4 +1,4 @@
-//! The outside as traits: a source of input, a disk, and a station that is a disk and shows what is said.
+//! The outside as traits: a source of input, a disk, and a station, which is a disk that also shows output.
 #![tactic(auto)]
 
 mod disk;

@@ -8,16 +8,16 @@ use std::io::Read;
 
 /// A stream of bytes that is taken in pieces.
 pub trait Source {
-    /// The bytes left, where they are told.
+    /// The bytes left. None if the source does not report them.
     ghost left: { Self → Option (List ℕ) };
 
-    /// How many calls failed. It stands still at its last value, 2^64 - 1.
+    /// How many calls failed. The count stays at its largest value, 2^64 - 1.
     ghost faults: { Self → ℕ };
 
     /// How many calls had failed when the last one began.
     ghost behind: { Self → ℕ };
 
-    /// Takes the next bytes, at most as many as the buffer has, and answers how many.
+    /// Takes the next bytes, at most as many as the buffer has, and returns how many.
     fn take(&mut self, buf: &mut [u8]) -> Result<usize, Failed>
         ensures { IsTake (left self.old) (left self.new) (faults self.old) (faults self.new) (behind self.new) buf.new result };
 }
@@ -63,7 +63,7 @@ impl Source for MemSource {
     }
 }
 
-/// A source over a reader, as standard input. It has left what the reader tells, and standard input tells nothing.
+/// A source over a reader, such as standard input. The bytes left are those that the reader reports; standard input does not report them.
 #[derive(Drop)]
 pub struct StdSource<R: Read> {
     pub reader: R,

@@ -1,11 +1,11 @@
--- A region as it is seen by those who hold one: its frames after one is set, and after one was lent.
+-- A region as its users see it: its frames after one is set, and after one was lent.
 use Rattle.std.proofs.Common.{◌≡◌, ◌≢◌, ℕ, zero, suc, ◌<◌, List, [], ◌∷◌, length, Option, Some, None, get_or, get_or-set_same, get_or-set_other, arith}
 use Rattle.std.proofs.Math.ListN.{drop_of_length-le}
 use Rattle.std.proofs.lemmas.List.{append-nil, take_all}
 use Rattle.std.specs.List.{refill}
 use Rattle.lis_region.specs.Region.{Region, get, with_frame}
 
--- as many items as the frame has are written as they are
+-- if as many items are written as the frame has, they are its items
 pub refill_same : {X : Type 0} (n : ℕ) (xs ws : List X) → length xs ≡ n → length ws ≡ n → refill n xs ws ≡ ws
 refill_same n xs ws old new = rw (drop_of_length-le xs {i = length ws} (omega arith), append-nil) (take_all n ws (omega arith))
 

@@ -31,7 +31,7 @@ module _ {X : Type 0} (frames : List (Option X)) (order : List ℕ) where
         apart = λ j k lt le. h.apart j k lt (omega arith);
       }
 
-  -- what holds at the numbers below `free` and at the one put there holds at each number below `free + 1`
+  -- what holds of the number at each index below `free`, and of the one put at `free`, holds at each index below `free + 1`
   by_place : (P : ℕ → Type 0) (free n k : ℕ) → k < free + 1 → (k < free → P (get_or (set order free n) k 0)) → P (get_or (set order free n) free 0) → P (get_or (set order free n) k 0)
   by_place P free n k lt below here =
       elim (dec_lt k free) [ yes l ↦ below l | no ge ↦ (let e : k ≡ free = omega arith in rw e here) ]

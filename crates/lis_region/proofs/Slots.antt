@@ -109,7 +109,7 @@ module _ {T : Type 0} where
     in_turn = λ k lt. grind (arith, common_steps, made.in_turn k);
   }
 
-  -- when all are made, the region is as it begins
+  -- when all slots are made, the region is sound
   pub sound_made : (slots : List (Slot T)) (order : List ℕ) (count width : ℕ) → count < 2 ^ 32 → IsMade slots order count width → IsSoundRegion slots order count width
   sound_made slots order count width few made =
       let long : length (frames_of slots) ≡ count = ap length made.frames ∙ length-replicate count None in

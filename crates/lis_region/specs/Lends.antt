@@ -1,4 +1,4 @@
--- What a `Region` ends as, where a frame of it is lent.
+-- What a `Region` becomes if a frame of it is lent.
 use Rattle.std.specs.Prelude.{ℕ, List, Some, unwrap_or, []}
 use Rattle.std.specs.List.{refill}
 use Rattle.std.specs.Borrow.{Lends, Fml, RattleType, MutBor, Array}

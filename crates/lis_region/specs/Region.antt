@@ -2,8 +2,7 @@
 use Rattle.std.specs.Prelude.{ℕ, ◌-◌, List, length, Option, None, IsSome, is_some, count_by, slice_index_or, slice_set, replicate, refl}
 use Rattle.std.specs.Coded.{Coded, code_by, coded×, coded_ℕ, coded_list, coded_option}
 
--- how many items a frame has, what each item of a new frame is, and at each number the items of its frame, or
--- `None` where the frame is free
+-- how many items a frame has, what each item of a new frame is, and at each number the items of its frame, or `None` if the frame is free
 pub record Region (T : Type 0) : Type 0 where
   pub width : ℕ
   pub fill : T
@@ -24,7 +23,7 @@ module _ {T : Type 0} where
   abbrev pub empty_region : ℕ → ℕ → T → Region T
   empty_region frames width fill = record { width = width; fill = fill; frames = replicate frames None }
 
-  -- the items of a frame, where it is taken
+  -- the items of a frame, if it is taken
   abbrev pub get : Region T → ℕ → Option (List T)
   get r frame = slice_index_or r.frames frame None
 

@@ -1,4 +1,4 @@
-//! Frames of equal width, taken from the heap at once and handed out one by one.
+//! Frames of equal width, allocated at once and handed out one by one.
 #![tactic(auto)]
 
 mod pool;

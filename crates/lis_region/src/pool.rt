@@ -4,8 +4,8 @@ use crate::region::Frame;
 use std::alloc::{AllocError, Global};
 use std::marker::Model;
 
-/// Frames of equal width, all of whose memory is reserved by `new`. A frame's memory is not touched before the frame is first
-/// taken, so that a large pool costs what is used of it. For few frames, or to lend one's items to be written, take a `Region`.
+/// Frames of equal width, all of whose memory is reserved by `new`. A frame's memory is not touched before the frame is first taken, so a
+/// large pool costs only what is used of it. For a few frames, or to lend a frame's items for writing, use a `Region`.
 #[derive(Drop)]
 pub struct Pool<T: Copy> {
     width: u32,
@@ -14,7 +14,7 @@ pub struct Pool<T: Copy> {
     // The items of the frames that were made, frame by frame. A frame is made when it is first taken. Each of these vectors has
     // room for all frames.
     items: Vec<T>,
-    // Of each frame that was made, whether it is taken.
+    // For each frame that was made, whether it is taken.
     taken: Vec<bool>,
     // The frames that were given back. Their items may be anything.
     given: Vec<u32>,
@@ -56,8 +56,7 @@ fn set_all<T: Copy>(items: &mut [T], fill: T)
 impl<T: Copy> Pool<T> {
     ghost use Rattle.lis_region.specs.Region.{empty_region, get, HasFrame, free_frames, with_frame};
 
-    /// A pool of so many frames of so many items each, none of them taken. All memory that the pool will use is reserved
-    /// here.
+    /// A pool of `frames` frames of `width` items each, none of them taken. All memory that the pool will use is reserved here.
     pub fn new(alloc: Global, frames: u32, width: u32, fill: T) -> Result<Pool<T>, AllocError>
         requires { frames * width ≤ 2 ^ 28 }
         ensures { IfOk result (λ pool. pool ≡ empty_region frames width fill) }

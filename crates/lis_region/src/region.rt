@@ -3,8 +3,7 @@ ghost use Rattle.std.specs.Prelude.{◌≡◌, ℕ, ◌+◌, ◌*◌, ◌^◌, �
 use std::alloc::{AllocError, Global};
 use std::marker::Model;
 
-/// A frame that is taken from a region, by its number there. It stays taken where this value is dropped and not
-/// given back.
+/// A frame that is taken from a region, by its number there. It stays taken if this value is dropped and not given back.
 #[derive(Debug, Drop)]
 pub struct Frame {
     pub(crate) number: u32,
@@ -16,7 +15,7 @@ impl Model for Frame {
     ghost view = { λ frame. frame.number };
 }
 
-/// Frames of equal width, all of whose memory is taken by `new`.
+/// Frames of equal width, all of whose memory is allocated by `new`.
 #[derive(Drop)]
 pub struct Region<T: Copy> {
     width: u32,
@@ -53,8 +52,7 @@ impl<T: Copy> Region<T> {
     ghost use Rattle.lis_region.specs.Lends.{lends_frame};
     ghost use Rattle.std.specs.Borrow.{sem};
 
-    /// A region of so many frames of so many items each, none of them taken. All memory that the region will use
-    /// is taken here.
+    /// A region of `frames` frames of `width` items each, none of them taken. All memory that the region will use is allocated here.
     pub fn new(alloc: Global, frames: u32, width: u32, fill: T) -> Result<Region<T>, AllocError>
         requires { frames * width ≤ 2 ^ 28 }
         ensures { IfOk result (λ region. region ≡ empty_region frames width fill) }
@@ -91,7 +89,7 @@ impl<T: Copy> Region<T> {
         slot.items.as_slice()
     }
 
-    /// The items of a frame, to be written. Every other frame stays.
+    /// The items of a frame, for writing. Every other frame stays.
     pub fn items_mut(&mut self, frame: &Frame) -> &mut [T]
         requires { HasFrame self.old frame.now }
         ensures* writes_back { sem 𝓛 (lends_frame T.row self.entry frame.now result) }

@@ -1,4 +1,4 @@
--- The lines of `add` make a file with its bytes and its first eight words, where the files before it are there.
+-- The lines of `add` make a file with its bytes and its first eight words, if the files before it are there.
 use Rattle.std.proofs.Common.{◌≡◌, ◌⊎◌, ℕ, ◌+◌, ◌≤◌, nat_lt, nat_le, true, false, not, List, [], ◌∷◌, ◌++◌, length, refl, sym, ap, subst, ◌∙◌, inl, inr, length-append, arith}
 use Rattle.std.specs.List.{list_any, list_all}
 use Rattle.std.specs.declared.cmp.Ordering.TheVariants.{Less}
@@ -34,7 +34,7 @@ payload_with bytes = record { size = length bytes; bytes = bytes }
 abbrev pub add_item : File → Item
 add_item file = Do (Add file.name (first_words file)) (payload_with file.bytes)
 
--- the file, with its first words alone
+-- the file, with only its first words
 abbrev pub begun : File → File
 begun file = new_file file.name (first_words file) file.bytes
 
@@ -48,7 +48,7 @@ module _ (t : State) (formed : WellFormed t) where
   abbrev pub by_files : List File → State
   by_files files = with_these t t.declared [] files
 
-  -- the files before the next one are some of all
+  -- the next file and those before it are files of the state, with no more of them and of blocks than the state has
   pub record IsNext (front : List File) (file : File) : Type 0 where
     pub there : (f : File) → Among (file ∷ front) f → Among t.files f
     pub above : (f : File) → Among front f → file_cmp f file ≡ Less
@@ -79,7 +79,7 @@ module _ (t : State) (formed : WellFormed t) where
           let below : word_cmp file.name file.name ≡ Less = ap (λ (n : List ℕ). word_cmp n file.name) (sym same) ∙ less in
           cc
 
-  -- the next file, with all of its words or with fewer, goes behind the others
+  -- the next file, with all of its words or with fewer, goes after the others
   pub files_lower : (front : List File) (file some : File) → IsNext front file → IsBarer some file → (files : List File)
       → ((f : File) → Among files f → (some ≡ f) ⊎ Among front f) → IsLower (by_files files) t
   files_lower front file some next barer files among = record {
@@ -140,7 +140,7 @@ module _ (t : State) (formed : WellFormed t) where
       space : nat_lt (free_blocks (by_files front)) (blocks_taken t.limits.version (length file.bytes)) ≡ false
       space = false_from_ne_true (nat_lt (free_blocks (by_files front)) (blocks_taken t.limits.version (length file.bytes))) (λ h. omega (arith, ltb-true _ _ h, next.blocks, formed.few_blocks))
 
-  -- the file comes behind the others
+  -- the file comes after the others
   pub add_steps : (front : List File) (file : File) → IsNext front file → step (at_root (by_files front)) (add_item file) ≡ said_ok (at_root (by_files (front ++ begun file ∷ [])))
   unfolding step
   add_steps front file next =

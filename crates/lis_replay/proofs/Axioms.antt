@@ -1,4 +1,4 @@
--- The lines of `axiom` add all axioms of a state, in their order, where its words and files are there.
+-- The lines of `axiom` add all axioms of a state, in their order, if its words and files are there.
 use Rattle.std.proofs.Common.{◌≡◌, ℕ, ◌+◌, ◌≤◌, true, false, not, ◌&&◌, List, [], ◌∷◌, ◌++◌, length, map, refl, sym, ap, subst, ◌∙◌, inl, inr, append_assoc, append-nil, length-append, arith}
 use Rattle.std.proofs.lemmas.Bool.{and_parts, and_from, false_from_ne_true, not_from_true, ltb-true}
 use Rattle.lis_graph.specs.Graph.{is_rising}
@@ -36,7 +36,7 @@ module _ (t : State) (formed : WellFormed t) where
   abbrev by_axioms : Pairs → State
   by_axioms axioms = with_these t t.declared axioms t.files
 
-  -- the axioms before the next one are some of all
+  -- the next axiom and those before it are axioms of the state
   record IsNext (front : Pairs) (pair : List ℕ × List ℕ) : Type 0 where
     there : (e : List ℕ × List ℕ) → Among (pair ∷ front) e → Among t.axioms e
     new : Among front pair → ⊥

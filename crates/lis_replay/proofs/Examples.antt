@@ -17,7 +17,7 @@ small = record { files = 64; props = 64; blocks = 8; version = 2 }
 abbrev file : List ℕ → List ℕ → List (List ℕ) → File
 file name bytes assigned = record { name = name; bytes = bytes; assigned = assigned }
 
--- where a session leads, and what it says
+-- where a session leads, and what it replies
 abbrev after : List ℕ → State
 after bytes = (situation_after (start_of small) (script bytes 1000)).state
 

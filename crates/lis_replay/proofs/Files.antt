@@ -1,4 +1,4 @@
--- The lines of all files make them, in their order, where all words are declared.
+-- The lines of all files make them, in their order, if all words are declared.
 use Rattle.std.proofs.Common.{◌≡◌, ℕ, List, [], ◌∷◌, ◌++◌, refl, sym, ap, subst, ◌∙◌, append_assoc, append-nil}
 use Rattle.std.specs.List.{flat_map}
 use Rattle.std.proofs.lemmas.List.{take-append-drop}

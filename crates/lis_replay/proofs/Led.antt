@@ -1,4 +1,4 @@
--- Items that are answered by `ok` alone, one after another, and where they lead.
+-- Items in sequence, each with the reply `ok` alone, and where they lead.
 use Rattle.std.proofs.Common.{◌≡◌, Bool, List, [], ◌∷◌, ◌++◌, refl, ap, subst, sym, ◌∙◌}
 use Rattle.lis_model.specs.declared.refusal.Refusal.{Refusal}
 use Rattle.lis_model.specs.Replies.{ok_line}
@@ -32,7 +32,7 @@ led_both now middle end (item ∷ items) more first rest =
     let later = led_both (step now item).next middle end items more (record { answers = first.answers.1; ends = first.ends }) rest in
     record { answers = (first.answers.0, later.answers); ends = later.ends }
 
--- where no refusal of a row stands, the command is done
+-- if no refusal of a row applies, the command is done
 pub not_refused : (now : Situation) (checks : List (Bool × Refusal)) (done : Outcome) → NoneStands checks → judged now checks done ≡ done
 not_refused now [] done none = refl
 not_refused now (check ∷ checks) done none = rw none.0 (not_refused now checks done none.1)

@@ -29,7 +29,7 @@ use Rattle.lis_replay.proofs.Files.{mv_items, file_items}
 use Rattle.lis_replay.proofs.Visible.{is_visible, IsVisible, property_visible, name_visible, name_short, decimal_visible, path_visible}
 use Rattle.lis_replay.proofs.Spelled.{Spells, spells_nothing, spells_both, AreWords, spells_line, spells_payload}
 
--- ---- words in form
+-- ---- well-formed words
 pub declarable_property : (word : List ℕ) → is_declarable word ≡ true → is_property word ≡ true
 declarable_property word form = by (declarable_cases word form)
   where
@@ -137,7 +137,7 @@ module _ (file : File) (formed : IsFileInForm file) where
   first_in_form : (w : List ℕ) → Among (first_words file) w → is_property w ≡ true
   first_in_form w m = word_is_property w (formed.words w (among_take 8 file.assigned w m))
 
-  -- the words of the line behind its first one
+  -- the words of the line after its first one
   abbrev add_words : List (List ℕ)
   add_words = file.name ∷ decimal (length file.bytes) ∷ first_words file
 

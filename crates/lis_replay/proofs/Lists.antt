@@ -21,7 +21,7 @@ module _ {K : Type 0} where
   pub among_drop : (n : ℕ) (xs : List K) (x : K) → Among (drop n xs) x → Among xs x
   among_drop n xs x m = subst (λ ys. Among ys x) (take-append-drop n xs) (among_right (take n xs) (drop n xs) x m)
 
-  -- what a front and the next member come to is no more than the whole
+  -- the sum over a prefix and the next member is at most that over the whole list
   pub sum_at : (count : K → ℕ) (xs : List K) (k : K) (ys : List K) → sum (map count xs) + count k ≤ sum (map count (xs ++ k ∷ ys))
   sum_at count [] k ys = omega (arith, sum_by-cons (λ n. n) (count k) (map count ys))
   sum_at count (x ∷ xs) k ys =

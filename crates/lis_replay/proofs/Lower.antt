@@ -57,7 +57,7 @@ known_lower s t lower w m = known_from t w (by (source_of s w m))
     by (LeftHead e there head) = LeftHead e (lower.axioms e there) head
     by (Described f there has) = file f has (lower.files f there)
 
--- ---- so there is room, where the other state has it
+-- ---- so there is room, if the other state has it
 pub room_known : (s t : State) → WellFormed t → IsLower s t → is_rising word_cmp s.declared ≡ true → exceeds_known s ≡ false
 room_known s t formed lower rising = false_from_ne_true (exceeds_known s) many
   where

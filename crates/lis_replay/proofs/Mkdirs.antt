@@ -28,7 +28,7 @@ abbrev pub mkdir_item : List ℕ → Item
 mkdir_item word = Do (Mkdir word) no_payload
 
 module _ (t : State) (formed : WellFormed t) where
-  -- the words before the next one are some of all
+  -- the next word and those before it are declared words of the state
   record IsNext (front : List (List ℕ)) (word : List ℕ) : Type 0 where
     rising : is_rising word_cmp front ≡ true
     there : (w : List ℕ) → Among (word ∷ front) w → Among t.declared w

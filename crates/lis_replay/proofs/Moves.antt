@@ -109,7 +109,7 @@ module _ (t : State) (formed : WellFormed t) (front : List File) (file : File) (
       ∙ insert_all_next word_cmp word_order (first_words file) (word ∷ words) (ap (is_rising word_cmp) both ∙ rising)
       ∙ both
 
-  -- and takes the place of what it was
+  -- and replaces what it was
   replaced : file_replaced now.state file.name file ≡ made
   replaced =
       ap (λ files. by_files t formed (insert_key file_cmp files file)) (without_last front (begun file) (name_new t formed front file next))

@@ -1,4 +1,4 @@
--- A path of at most eight words that files are given: what it reads to, and its words.
+-- A path of at most eight words that files are given: what it reads as, and its words.
 use Rattle.std.proofs.Common.{◌≡◌, ℕ, ◌*◌, ◌≤◌, nat_lt, true, false, Option, Some, List, [], ◌∷◌, ◌++◌, length, map, filter, codes, refl, sym, ap, ◌∙◌, inl, inr, arith}
 use Rattle.std.specs.Prelude.{sum_by, option_map, unwrap_or}
 use Rattle.std.specs.List.{flat_map}

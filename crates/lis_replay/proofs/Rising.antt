@@ -1,4 +1,4 @@
--- Rising lists: what stands above all members is put in behind them.
+-- Rising lists: what is above all members is inserted after them.
 use Rattle.std.proofs.Common.{◌≡◌, true, List, [], ◌∷◌, ◌++◌, refl, sym, ap, subst, ◌∙◌, inl, inr, append_assoc, append-nil}
 use Rattle.std.specs.declared.cmp.Ordering.{Ordering}
 use Rattle.std.specs.declared.cmp.Ordering.TheVariants.{Less, Equal, Greater}
@@ -21,7 +21,7 @@ module _ {K : Type 0} (cmp : K → K → Ordering) (order : IsTotalOrder cmp) wh
       by Equal e = absurd cc
       by Greater e = absurd cc
 
-  -- each front and each back of a rising list rises
+  -- each prefix and each suffix of a rising list rises
   pub rising_front : (xs ys : List K) → is_rising cmp (xs ++ ys) ≡ true → is_rising cmp xs ≡ true
   rising_front [] ys h = refl
   rising_front (x ∷ xs) ys h =
@@ -33,18 +33,18 @@ module _ {K : Type 0} (cmp : K → K → Ordering) (order : IsTotalOrder cmp) wh
   rising_back [] ys h = h
   rising_back (x ∷ xs) ys h = rising_back xs ys (and_parts _ _ h).1
 
-  -- a member of a front is below those behind it
+  -- a member of a prefix is below those after it
   pub front_below : (xs ys : List K) (x y : K) → is_rising cmp (xs ++ ys) ≡ true → Among xs x → Among ys y → cmp x y ≡ Less
   front_below [] ys x y h m n = absurd m
   front_below (z ∷ xs) ys x y h (inl same) n =
       less_from_test x y (all_among (λ k. is_lt (cmp x k)) (xs ++ ys) y (subst (λ (k : K). list_all (λ l. is_lt (cmp k l)) (xs ++ ys) ≡ true) same (and_parts _ _ h).0) (among_right xs ys y n))
   front_below (z ∷ xs) ys x y h (inr m) n = front_below xs ys x y (and_parts _ _ h).1 m n
 
-  -- so that it is none of them
+  -- so it is none of them
   pub front_apart : (xs ys : List K) (x : K) → is_rising cmp (xs ++ ys) ≡ true → Among xs x → Among ys x → ⊥
   front_apart xs ys x h m n = let less = front_below xs ys x x h m n in let level = tied_itself order x in cc
 
-  -- what stands behind all members is put in there
+  -- what is above all members is inserted at the end
   pub insert_behind : (xs : List K) (k : K) → ((x : K) → Among xs x → cmp x k ≡ Less) → insert_key cmp xs k ≡ xs ++ k ∷ []
   insert_behind [] k above = refl
   insert_behind (x ∷ xs) k above =

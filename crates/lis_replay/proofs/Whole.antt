@@ -19,7 +19,7 @@ use Rattle.lis_replay.proofs.Spelled.{Spells, spells_both, spells_all}
 use Rattle.lis_replay.proofs.Lines.{declarable_property, mkdir_spells, axiom_in_form, axiom_spells, file_in_form, file_spells}
 use Rattle.lis_replay.proofs.Sizes.{dump_short}
 
--- what the dump asks for
+-- what the dump requests
 abbrev dump_items : State → List Item
 dump_items s = map mkdir_item s.declared ++ flat_map file_items s.files ++ map axiom_item s.axioms
 

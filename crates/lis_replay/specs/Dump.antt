@@ -27,7 +27,7 @@ mkdir_line word = words_line (codes "mkdir" ∷ word ∷ [])
 abbrev pub add_lines : File → List ℕ
 add_lines file = words_line (codes "add" ∷ file.name ∷ decimal (length file.bytes) ∷ first_words file) ++ line file.bytes
 
--- the file's name, and the words as a path; no line where there are none
+-- the file's name, and the words as a path; no line if there are none
 abbrev pub mv_lines : List ℕ → List (List ℕ) → List ℕ
 mv_lines name [] = []
 mv_lines name (word ∷ words) = words_line (codes "mv" ∷ name ∷ joined_with 47 (word ∷ words) ∷ [])
@@ -38,6 +38,7 @@ file_lines file = add_lines file ++ mv_lines file.name (other_words file)
 abbrev pub axiom_line : List ℕ × List ℕ → List ℕ
 axiom_line pair = words_line (codes "axiom" ∷ pair.0 ∷ pair.1 ∷ [])
 
--- All lists are in order in a well-formed state: words and files by their bytes and names, axioms by their left and then by their right sides.
+-- All lists are in order in a well-formed state: words and files by their bytes and names, axioms by their left and then by their right
+-- sides.
 unfoldable pub dump_of : State → List ℕ
 dump_of s = flat_map mkdir_line s.declared ++ flat_map file_lines s.files ++ flat_map axiom_line s.axioms

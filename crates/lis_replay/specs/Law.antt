@@ -6,7 +6,7 @@ use Rattle.lis_model.specs.Step.{Situation, Item, step, start_of, situation_afte
 use Rattle.lis_model.specs.Script.{script}
 use Rattle.lis_replay.specs.Dump.{dump_of}
 
--- each of the items is answered by `ok` alone
+-- the reply to each of the items is `ok` alone
 abbrev pub AnswersOk : Situation → List Item → Type 0
 AnswersOk now [] = Unit {0}
 AnswersOk now (item ∷ items) = ((step now item).reply ≡ ok_line) × AnswersOk (step now item).next items
@@ -16,6 +16,6 @@ pub record Makes (s : State) (items : List Item) : Type 0 where
   pub answers : AnswersOk (start_of s.limits) items
   pub made : situation_after (start_of s.limits) items ≡ record { state = s; place = [] }
 
--- The dump of a well-formed state makes it again, whole, within the limit of an input, which is 2^40 bytes.
+-- The dump of a well-formed state makes all of it again, within the limit of an input, which is 2^40 bytes.
 abbrev pub DumpsMake : Type 0
 DumpsMake = (s : State) → WellFormed s → Makes s (script (dump_of s) (2 ^ 40))

@@ -3,7 +3,7 @@
 
 ghost use Rattle.lis_replay.specs.Law.{DumpsMake};
 
-/// From the empty state of the same limits the session is answered by `ok` alone, and makes the state again.
+/// From the empty state of the same limits each item of the session gets the reply `ok` alone, and the session makes the state again.
 pub fn dumps_make()
     ensures { DumpsMake }
 {}

@@ -1,4 +1,4 @@
--- What the slots of a block hold when the bytes of one are written over.
+-- What the slots of a block have when the bytes of one are written over.
 use Rattle.std.proofs.Common.{◌≡◌, ◌⊎◌, ℕ, ◌+◌, ◌*◌, ◌/◌, ◌%◌, ◌<◌, ◌≤◌, eqb, Bool, true, false, cond, List, ◌++◌, length, take, drop, refl, sym, ◌∙◌, ap, subst, inl, inr, arith, append_assoc, mul-le-mul_left}
 use Rattle.std.proofs.Math.Nat.{div-add-mod, mod-lt}
 use Rattle.std.proofs.lemmas.Bool.{eqb-true, eqb-false, eq-eqb, cases_lt}
@@ -14,7 +14,7 @@ put_between xs at n bytes is =
     ∙ (sym (append_assoc (take at xs) bytes (drop (length bytes) (drop at xs)))
     ∙ ap (λ ys. take at xs ++ bytes ++ ys) (drop-drop (length bytes) at xs))
 
--- places of one block are apart
+-- different slots of one block are apart
 pub places_apart : (w a b : ℕ) → (a ≡ b → ⊥) → Apart (w * b) w (w * a) w
 places_apart w a b differ = cases (cases_lt a b)
   where

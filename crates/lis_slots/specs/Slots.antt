@@ -1,4 +1,4 @@
--- Slots of equal width in a row of blocks.
+-- Slots of equal width in consecutive blocks.
 use Rattle.std.specs.Prelude.{◌≡◌, ℕ, ◌+◌, ◌*◌, ◌/◌, ◌%◌, ◌==◌, false, if◌then◌else◌, List, length, Result, Ok, Err}
 use Rattle.lis_limits.specs.declared.TheConstants.{BLOCK_LEN}
 use Rattle.lis_ports.specs.Meaning.{Meaning}
@@ -26,11 +26,11 @@ home s k = s.first + k / per_block s
 abbrev pub place : Slots → ℕ → ℕ
 place s k = s.width * (k % per_block s)
 
--- slot k, by what each block holds
+-- slot k, by what each block has
 abbrev pub slot : Slots → (ℕ → List ℕ) → ℕ → List ℕ
 slot s at k = part (place s k) s.width (at (home s k))
 
--- The block of slot k is staged. By what is staged and kept, slot k has these bytes then, and every other slot what it had.
+-- The block of slot k is staged. By what is then staged and kept, slot k has these bytes, and every other slot has what it had.
 pub record SlotPut (s : Slots) (k : ℕ) (bytes : List ℕ) (old new : Held) (m : Meaning) : Type 0 where
   pub content : List ℕ
   pub whole : length content ≡ BLOCK_LEN

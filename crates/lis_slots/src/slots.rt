@@ -1,4 +1,4 @@
-//! Slots of equal width in a row of blocks.
+//! Slots of equal width in consecutive blocks.
 
 ghost use Rattle.std.specs.Prelude.{◌≡◌, ◌⊎◌, ◌+◌, ◌*◌, ◌%◌, ◌<◌, ◌≤◌, ℕ, List, false, length, IsTrue, OnOk};
 ghost use Rattle.lis_ports.specs.Bytes.{put};
@@ -13,7 +13,7 @@ use lis_limits::BLOCK_LEN;
 use lis_ports::{Disk, Failed};
 use std::marker::Model;
 
-/// Slots of equal width in a row of blocks, as many in each block as it has room for.
+/// Slots of equal width in consecutive blocks, as many in each block as it has room for.
 #[derive(Clone, Copy)]
 pub struct Slots {
     first: u32,
@@ -36,7 +36,7 @@ impl Model for Slots {
     ghost invariant = { λ s. (0 < s.width) × (BLOCK_LEN % s.width ≡ 0) };
 }
 
-// Writes the bytes over those of the block from a place on.
+// Writes the bytes over those of the block from index `at` on.
 fn overwrite(block: &mut [u8], at: usize, bytes: &[u8])
     requires { at + length bytes.now ≤ length block.old }
     ensures { block.new ≡ put block.old at bytes.now }
@@ -47,7 +47,7 @@ fn overwrite(block: &mut [u8], at: usize, bytes: &[u8])
 impl Slots {
     ghost use Rattle.lis_slots.specs.Slots.{per_block, home, place, slot, PutEnded};
 
-    /// As many slots of so many bytes, from a block on. No slot lies across two blocks.
+    /// `count` slots of `width` bytes, from block `first` on. No slot crosses the end of a block.
     pub fn new(first: u32, count: u32, width: u32) -> Slots
         requires width { 0 < width }
         requires divides { BLOCK_LEN % width ≡ 0 }
@@ -76,7 +76,7 @@ impl Slots {
         BLOCK_LEN as u32 / self.width
     }
 
-    // The block of slot k, in an image of so many blocks.
+    // The block of slot k, in an image of `blocks` blocks.
     fn home(&self, blocks: u32, k: u32) -> u32
         requires { home self.now k < blocks }
         ensures { result ≡ home self.now k }
@@ -93,7 +93,7 @@ impl Slots {
         (self.width * (k % self.per_block())) as usize
     }
 
-    /// Reads a slot, as it is staged or else kept.
+    /// Reads a slot, as it is staged or otherwise kept.
     pub fn get<D: Disk>(
         &self,
         journal: &Journal,

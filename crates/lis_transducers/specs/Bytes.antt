@@ -1,4 +1,4 @@
--- Kinds of bytes, and fronts of bytes of one kind.
+-- Kinds of bytes, and prefixes of bytes of one kind.
 use Rattle.std.specs.Prelude.{ℕ, ◌==◌, Bool, false, not, ◌||◌, if◌then◌else◌, List, [], ◌∷◌}
 use Rattle.std.specs.Char.{is_ascii_alphabetic, is_ascii_alphanumeric}
 use Rattle.lis_words.specs.Bytes.{is_feed}
@@ -6,7 +6,7 @@ use Rattle.lis_words.specs.Bytes.{is_feed}
 abbrev pub is_slash : ℕ → Bool
 is_slash b = b == 47
 
--- the other white space but LF: vertical tab, form feed, CR
+-- the other white space, except LF: vertical tab, form feed, CR
 abbrev pub is_white : ℕ → Bool
 is_white b = (b == 11) || (b == 12) || (b == 13)
 
@@ -25,12 +25,12 @@ is_number_byte b = is_name_byte b || (b == 46)
 abbrev pub is_no_feed : ℕ → Bool
 is_no_feed b = not (is_feed b)
 
--- the bytes from the front on that pass a test
+-- the longest prefix of bytes that pass a test
 abbrev pub front : (ℕ → Bool) → List ℕ → List ℕ
 front test [] = []
 front test (b ∷ bytes) = if test b then b ∷ front test bytes else []
 
--- what stands behind them
+-- what follows that prefix
 abbrev pub past : (ℕ → Bool) → List ℕ → List ℕ
 past test [] = []
 past test (b ∷ bytes) = if test b then past test bytes else b ∷ bytes

@@ -8,7 +8,8 @@ use Rattle.lis_transducers.specs.declared.piece.Kind.TheVariants.{Blank, White, 
 use Rattle.lis_transducers.specs.declared.piece.Context.{Context}
 use Rattle.lis_transducers.specs.declared.piece.Context.TheVariants.{LineStart, Code, Hash, Include, Directive}
 
--- whether a piece counts: a path does, and each token outside directives; white space, comments and a # that begins a directive are no tokens
+-- whether a piece counts: a path does, and each token outside directives; white space, comments and a # that begins a directive are no
+-- tokens
 abbrev pub counts : Context → Kind → Bool
 counts context Blank = false
 counts context White = false
@@ -22,14 +23,14 @@ counts Hash _ = false
 counts Include _ = false
 counts Directive _ = false
 
--- the pieces that count, where the first piece stands in this context
+-- the pieces that count, if the first piece is in this context
 abbrev pub entries : Context → List Piece → List Piece
 entries context [] = []
 entries context (piece ∷ ps) =
     if counts context piece.kind then piece ∷ entries (context_after context piece) ps
     else entries (context_after context piece) ps
 
--- each piece that counts is a token, but for a path
+-- each piece that counts is a token, except a path
 abbrev pub is_token : Kind → Bool
 is_token (Path close) = false
 is_token _ = true
@@ -39,7 +40,7 @@ abbrev pub tokens : List Piece → List Kind
 tokens [] = []
 tokens (piece ∷ ps) = if is_token piece.kind then piece.kind ∷ tokens ps else tokens ps
 
--- the bytes of a path behind its last /, or all of them
+-- the bytes of a path after its last /, or all of them
 abbrev pub last_part : List ℕ → List ℕ
 last_part [] = []
 last_part (b ∷ bytes) =

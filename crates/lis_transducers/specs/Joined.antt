@@ -1,7 +1,7 @@
 -- Joined lines: a backslash before a line end joins lines, before comments are seen (C). A line end is LF, or CR and LF.
 use Rattle.std.specs.Prelude.{ℕ, ◌==◌, ◌&&◌, if◌then◌else◌, List, [], ◌∷◌}
 
--- the bytes without joints
+-- the bytes without these backslashes and line ends
 unfoldable pub joined : List ℕ → List ℕ
 joined [] = []
 joined (a ∷ []) = a ∷ []

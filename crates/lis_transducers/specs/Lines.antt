@@ -3,8 +3,8 @@ use Rattle.std.specs.Prelude.{ℕ, nat_le, Bool, false, not, ◌&&◌, if◌then
 use Rattle.std.specs.List.{slice_split, take_while, concat, list_any, list_all, before_first, after_first}
 use Rattle.lis_words.specs.Bytes.{is_feed, is_blank, is_colon, is_some_bytes, without_return, tilde}
 
--- The header: the lines before the first empty one (RFC 5322, section 2.1), or all of them. A line ends with CR and LF (the same section), or
--- with LF alone (this project's own); what stands behind the last line feed is one too.
+-- The header: the lines before the first empty one (RFC 5322, section 2.1), or all of them. A line ends with CR and LF (the same section),
+-- or with LF alone (this project's own). What follows the last line feed is a line too.
 abbrev pub header : List ℕ → List (List ℕ)
 header bytes = take_while is_some_bytes (map without_return (slice_split is_feed bytes))
 
@@ -29,14 +29,14 @@ pub record Field : Type 0 where
   pub name : List ℕ
   pub body : List ℕ
 
--- The body of a field is what stands behind the colon, and the folded lines that follow (RFC 5322, section 2.2.3).
+-- The body of a field is what follows the colon, and the folded lines after it (RFC 5322, section 2.2.3).
 abbrev pub field_of : List ℕ → List (List ℕ) → Field
 field_of line following = record {
   name = before_first is_colon line;
   body = after_first is_colon line ++ concat (take_while is_folded following);
 }
 
--- The fields in order. A line that begins no field and is in none is passed over (this project's own).
+-- The fields in order. A line that begins no field and is in none is skipped (this project's own).
 abbrev pub fields : List (List ℕ) → List Field
 fields [] = []
 fields (line ∷ following) = if is_field line then field_of line following ∷ fields following else fields following

@@ -9,12 +9,12 @@ use Rattle.lis_transducers.specs.declared.piece.Context.{Context}
 use Rattle.lis_transducers.specs.declared.piece.Context.TheVariants.{LineStart, Code, Hash, Include, Directive}
 use Rattle.lis_words.specs.Bytes.{is_feed, is_blank}
 
--- a piece, with its bytes where it is an identifier or a path
+-- a piece, with its bytes if it is an identifier or a path
 pub record Piece : Type 0 where
   pub kind : Kind
   pub text : List ℕ
 
--- the first piece of some bytes, and what stands behind it
+-- the first piece of some bytes, and what follows it
 pub record Read : Type 0 where
   pub piece : Piece
   pub rest : List ℕ
@@ -34,13 +34,13 @@ piece_of kind bytes = record { kind = kind; text = text_of kind bytes }
 abbrev pub read : Kind → List ℕ → List ℕ → Read
 read kind text rest = record { piece = piece_of kind text; rest = rest }
 
--- what stands behind the next */, or nothing: block comments do not nest (C)
+-- what follows the next */, or nothing: block comments do not nest (C)
 abbrev pub after_block : List ℕ → List ℕ
 after_block [] = []
 after_block (b ∷ bytes) = if (b == 42) && begins_with 47 bytes then but_first bytes else after_block bytes
 
--- What stands behind a literal: it ends with its closing byte, before the next LF, or at the end. A backslash escapes the
--- byte after it (C), but not an LF (this project's own). `escaped` says whether a backslash stands before the bytes.
+-- What follows a literal. A literal ends with its closing byte, before the next LF, or at the end. A backslash escapes the byte after it
+-- (C), but not an LF (this project's own). `escaped` says whether a backslash is before the bytes.
 abbrev pub after_literal : ℕ → Bool → List ℕ → List ℕ
 after_literal close escaped [] = []
 after_literal close escaped (b ∷ bytes) =
@@ -49,7 +49,7 @@ after_literal close escaped (b ∷ bytes) =
     else if b == close then bytes
     else after_literal close (b == 92) bytes
 
--- a comment, where the byte behind a / makes one: `//` runs to the end of its line (C)
+-- a comment, if the byte after a / makes one: `//` runs to the end of its line (C)
 abbrev pub slash_piece : List ℕ → Read
 slash_piece [] = read (Mark 47) [] []
 slash_piece (b ∷ bytes) =
@@ -65,7 +65,7 @@ close_of first = if first == 60 then 62 else first
 abbrev pub has_close : ℕ → List ℕ → Bool
 has_close close bytes = begins_with close (past (is_in_path close) bytes)
 
--- whether a path stands here: only behind `include`, and only where its closing byte comes before the next LF
+-- whether a path begins here: only after `include`, and only if its closing byte comes before the next LF
 abbrev pub opens_path : Context → ℕ → List ℕ → Bool
 opens_path Include first bytes = ((first == 60) || (first == 34)) && has_close (close_of first) bytes
 opens_path _ first bytes = false
@@ -95,8 +95,8 @@ first_piece context b bytes =
     else if is_open b then open_piece context b bytes
     else read (Mark b) [] bytes
 
--- Where the pieces behind one stand. A # before which its line has only white space and comments begins a directive (C);
--- it runs to the next LF outside comments. Only spaces, tabs and comments may stand round `include`.
+-- The context of the pieces after one. A # begins a directive if only white space and comments are before it on its line (C). The directive
+-- runs to the next LF outside comments. Only spaces, tabs and comments may be around `include`.
 abbrev pub kind_after : Context → Kind → List ℕ → Context
 kind_after context Feed text = LineStart
 kind_after context Blank text = context
@@ -113,8 +113,8 @@ kind_after Directive _ text = Directive
 abbrev pub context_after : Context → Piece → Context
 context_after context piece = kind_after context piece.kind piece.text
 
--- The pieces, read one after another, at most as many as there are bytes: each takes one byte at least. `IsFirst`, which
--- the code's `first_piece` ensures, is the law of it that counts.
+-- The pieces, read in sequence. There are at most as many as there are bytes, since each takes at least one byte. The law of it that
+-- matters is `IsFirst`, which the code's `first_piece` ensures.
 abbrev pub pieces_within : ℕ → Context → List ℕ → List Piece
 pieces_within zero context bytes = []
 pieces_within (suc n) context [] = []
@@ -125,6 +125,6 @@ pieces_within (suc n) context (b ∷ bytes) =
 unfoldable pub pieces : Context → List ℕ → List Piece
 pieces context bytes = pieces_within (length bytes) context bytes
 
--- the first piece in this context is this one, and these bytes stand behind it
+-- the first piece in this context is this one, and these bytes follow it
 abbrev pub IsFirst : Context → List ℕ → Piece → List ℕ → Type 0
 IsFirst context bytes piece rest = pieces context bytes ≡ piece ∷ pieces (context_after context piece) rest

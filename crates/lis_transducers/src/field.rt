@@ -1,11 +1,11 @@
 //! The fields of a mail.
 
-/// What a field of a mail is, as far as words are taken from it.
+/// The kind of a field of a mail, by which words are taken from it.
 #[derive(Clone, Copy, Debug, PartialEq, Eq)]
 pub enum FieldKind {
     /// Who sent the mail.
     From,
-    /// Who is to have it.
+    /// Who receives it.
     To,
     /// What it is about.
     Subject,

@@ -5,7 +5,7 @@
 pub enum Kind {
     /// A space or a tab.
     Blank,
-    /// Other white space but a line feed.
+    /// Other white space, except a line feed.
     White,
     /// A line feed outside comments.
     Feed,
@@ -23,17 +23,17 @@ pub enum Kind {
     Mark(u8),
 }
 
-/// Where a piece stands in its line.
+/// Where a piece is in its line.
 #[derive(Clone, Copy, Debug, PartialEq, Eq)]
 pub enum Context {
-    /// Behind white space and comments alone.
+    /// After white space and comments alone.
     LineStart,
-    /// Behind something else, outside directives.
+    /// After something else, outside directives.
     Code,
-    /// Behind the `#` of a directive.
+    /// After the `#` of a directive.
     Hash,
-    /// Behind the `include` of a directive.
+    /// After the `include` of a directive.
     Include,
-    /// Behind something else in a directive.
+    /// After something else in a directive.
     Directive,
 }

@@ -11,7 +11,7 @@ use Rattle.lis_views.specs.Views.Piece.{Shown, Hidden}
 use Rattle.lis_views.specs.Edits.{is_kept, is_mark, is_edited, marked, run_at, new_texts}
 use Rattle.lis_views.proofs.Marks.{marks_apart}
 
--- each of these runs stands at its mark
+-- each of these runs is at its mark
 abbrev Stand : List (List ℕ × List (List ℕ)) → ℕ → List (List (List ℕ)) → Type 0
 Stand marks n [] = Unit {0}
 Stand marks n (run ∷ runs) = (run_at marks (mark_of n run) ≡ run) × Stand marks (n + 1) runs

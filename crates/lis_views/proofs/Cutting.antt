@@ -8,7 +8,7 @@ use Rattle.lis_words.specs.Bytes.{is_feed}
 abbrev pub lines : List (List ℕ) → Bool → Lines
 lines texts is_open = record { texts = texts; is_open = is_open }
 
--- what lines in form are
+-- what well-formed lines are
 pub record Formed (texts : List (List ℕ)) (is_open : Bool) : Type 0 where
   pub no_feeds : list_all has_no_feed texts ≡ true
   pub end : (not is_open || ends_in_some texts) ≡ true
@@ -19,7 +19,7 @@ formed_parts texts is_open h = let parts = and_parts _ _ h in record { no_feeds 
 pub formed_from : (texts : List (List ℕ)) (is_open : Bool) → Formed texts is_open → are_lines (lines texts is_open) ≡ true
 formed_from texts is_open f = and_from _ _ f.no_feeds f.end
 
--- ---- the lines of a content are in form
+-- ---- the lines of a content are well formed
 feed_formed : (texts : List (List ℕ)) (is_open : Bool) → Formed texts is_open → Formed ([] ∷ texts) is_open
 feed_formed [] is_open f = record { no_feeds = f.no_feeds; end = f.end }
 feed_formed (text ∷ texts) is_open f = record { no_feeds = f.no_feeds; end = f.end }
@@ -67,11 +67,11 @@ pub cut_content : (bytes : List ℕ) → content_of (lines_of bytes) ≡ bytes
 cut_content [] = refl
 cut_content (b ∷ bytes) = before_content b (lines_of bytes) (cut_formed bytes) ∙ ap (λ bs. b ∷ bs) (cut_content bytes)
 
--- ---- and the lines in form of some content are those that the cutting gives
+-- ---- and the well-formed lines of some content are those that the cutting gives
 before_byte : (b : ℕ) (cut : Lines) → is_feed b ≡ false → before b cut ≡ byte_before b cut.texts cut.is_open
 before_byte b cut other = ap (λ t. cond t (lines ([] ∷ cut.texts) cut.is_open) (byte_before b cut.texts cut.is_open)) other
 
--- a line and the bytes behind it
+-- a line and the bytes after it
 pub line_cut : (text bytes : List ℕ) → has_no_feed text ≡ true → lines_of (text ++ 10 ∷ bytes) ≡ lines (text ∷ (lines_of bytes).texts) (lines_of bytes).is_open
 line_cut [] bytes h = refl
 line_cut (b ∷ text) bytes h =

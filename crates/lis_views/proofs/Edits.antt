@@ -45,7 +45,7 @@ module _ (bytes : List ℕ) (place : List Formula) where
   view_whole : AreWhole (runs_of (pieces bytes place))
   view_whole = runs_no_feed (pieces bytes place) view_formed.no_feeds
 
--- ---- what is neither refused
+-- ---- an input that neither check refuses
 abbrev chosen : Bool → Bool → List ℕ → Back
 chosen formed same new = cond (not formed) NotAView (cond (not same) WrongMarks (Content new))
 

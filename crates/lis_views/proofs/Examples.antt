@@ -24,7 +24,7 @@ notes = codes "alpha one\nbeta\n\nalpha two"
 lines_cut : lines_of notes ≡ record { texts = codes "alpha one" ∷ codes "beta" ∷ [] ∷ codes "alpha two" ∷ []; is_open = true }
 lines_cut = refl
 
--- one line feed more is one more empty text, and then the list is closed
+-- one more line feed is one more empty text, and then the list is closed
 lines_ended : lines_of (codes "a\n\n") ≡ record { texts = codes "a" ∷ [] ∷ []; is_open = false }
 lines_ended = refl
 
@@ -72,7 +72,7 @@ leading_zero : back notes (codes "line:empty") (codes "@1 2\n+\n@02 1\n") ≡ No
 unfolding text_steps
 leading_zero = refl
 
--- `!` asks for a last text that is not empty, and this comes before the marks
+-- `!` requires a last text that is not empty, and this check comes before that of the marks
 empty_at_the_end : back notes (codes "word:alpha") (codes "@1 2\n!") ≡ NotAView
 unfolding text_steps
 empty_at_the_end = refl

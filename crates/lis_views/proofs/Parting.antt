@@ -23,7 +23,7 @@ apart_by test (text ∷ texts) = by (test text) (apart_by test texts)
     by true rest = rest
     by false rest = apart_before text (pieces_by test texts) rest
 
--- no run stands first
+-- the first piece is no run
 abbrev begins_shown : List Piece → Bool
 begins_shown [] = true
 begins_shown (Shown text ∷ parts) = true

@@ -71,7 +71,7 @@ lines_marks n (Hidden run ∷ pieces) one some =
     ap (λ t. cond t (mark_of n run ∷ filter is_mark (piece_lines (n + 1) pieces)) (filter is_mark (piece_lines (n + 1) pieces))) (mark_formed n run one some.0)
     ∙ ap (λ marks. mark_of n run ∷ marks) (lines_marks (n + 1) pieces (omega arith) some.1)
 
--- ---- line feeds: none in the lines, where there are none in the texts; and the other way round
+-- ---- line feeds: none in the lines if there are none in the texts, and conversely
 pub lines_no_feed : (n : ℕ) (pieces : List Piece) → list_all has_no_feed (flat_map texts_in pieces) ≡ true → list_all has_no_feed (piece_lines n pieces) ≡ true
 lines_no_feed n [] h = refl
 lines_no_feed n (Shown text ∷ pieces) h = let parts = and_parts (has_no_feed text) (list_all has_no_feed (flat_map texts_in pieces)) h in and_from _ _ parts.0 (lines_no_feed n pieces parts.1)

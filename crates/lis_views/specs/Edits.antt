@@ -67,7 +67,7 @@ new_texts marks texts = flat_map (texts_at marks) texts
 abbrev pub has_marks : List (List ℕ × List (List ℕ)) → List (List ℕ) → Bool
 has_marks marks texts = pointwise same_word (filter is_mark texts) (map (λ pair. pair.0) marks)
 
--- every line is of its kind, and where the new content is to end without a line feed its last text is not empty
+-- every line is of one of the kinds, and if the new content must end without a line feed its last text is not empty
 abbrev pub is_in_form : List (List ℕ × List (List ℕ)) → List (List ℕ) → Bool → Bool
 is_in_form marks texts is_open = list_all is_edited texts && (not is_open || ends_in_some (new_texts marks texts))
 
@@ -89,7 +89,7 @@ back_by marks texts is_open =
 abbrev pub view_marks : List ℕ → List Formula → List (List ℕ × List (List ℕ))
 view_marks bytes place = marked 1 (runs_of (pieces bytes place))
 
--- The lines of the input are cut at line feeds alone, and its last one may lack its own.
+-- The input is cut into lines at line feeds alone, and its last line may lack its line feed.
 abbrev pub back_of : List ℕ → List Formula → List ℕ → Back
 back_of bytes place input =
     back_by (view_marks bytes place) (before_end (lines_of input).texts) (has_end (lines_of input).texts)

@@ -24,16 +24,16 @@ UnchangedStays = (bytes : List ℕ) (place : List Formula) → back_of bytes pla
 -- The input is an edit of the view of these bytes, and these are the new ones: it is itself the view of some pieces.
 pub record IsEdit (bytes : List ℕ) (place : List Formula) (input new : List ℕ) : Type 0 where
   pub edited : List Piece
-  -- the lines of the input are the texts that these pieces show and the marks of their runs, and `!` where the new bytes are open at their end
+  -- the lines of the input are the texts that these pieces show and the marks of their runs, and `!` if the new bytes are open at their end
   pub lines : (lines_of input).texts ≡ view_lines edited (lines_of new).is_open
   -- their runs are those of the view, in order
   pub runs : runs_of edited ≡ runs_of (pieces bytes place)
-  -- and so, one behind another, the texts that do not satisfy the formula
+  -- and so, in sequence, the texts of which the formula does not hold
   pub hidden : flat_map (λ run. run) (runs_of edited) ≡ filter (λ text. not (line_holds place text)) (lines_of bytes).texts
-  -- the new texts are theirs
+  -- the new texts are those of the pieces
   pub texts : (lines_of new).texts ≡ flat_map texts_in edited
 
--- Where an input gives new bytes, the hidden texts stand in them in their order, at their marks, and all other texts are the input's in order.
+-- If an input gives new bytes, the hidden texts are in them in their order, at their marks, and all other texts are the input's in order.
 abbrev pub HiddenStay : Type 0
 HiddenStay = (bytes : List ℕ) (place : List Formula) (input new : List ℕ) → back_of bytes place input ≡ Content new → IsEdit bytes place input new
 

@@ -26,11 +26,11 @@ line_kinds text = kind_of text ∷ (if is_directive text then codes "directive" 
 abbrev pub is_short : List ℕ → Bool
 is_short run = nat_le (length run) 55
 
--- the longest runs of plain bytes, but for those that make no word behind `word:`
+-- the longest runs of plain bytes, except those that make no word after `word:`
 abbrev pub short_runs : List ℕ → List (List ℕ)
 short_runs text = filter is_short (tokens text)
 
--- a head and the words that have it, where there are any
+-- a head and the words that have it, if there are any
 abbrev pub with_head : List ℕ → List (List ℕ) → List (List ℕ)
 with_head head [] = []
 with_head head (value ∷ values) = head ∷ map (λ v. head ++ v) (value ∷ values)

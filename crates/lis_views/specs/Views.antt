@@ -1,4 +1,4 @@
--- What a view of a content shows: the lines that satisfy a formula, and marks in place of the others.
+-- What a view of a content shows: the lines of which a formula holds, and marks instead of the others.
 use Rattle.std.specs.Prelude.{◌≡◌, ℕ, ◌+◌, ◌<◌, Bool, true, false, if◌then◌else◌, List, [], ◌∷◌, ◌++◌, length, map, codes, IsTrue}
 use Rattle.std.specs.List.{flat_map, AllByRecursion}
 use Rattle.std.specs.Int.Digits.{digits_of}
@@ -10,7 +10,7 @@ use Rattle.lis_views.specs.Truth.{line_holds, LineHolds}
 pub data Piece : Type 0 where
   -- a text that is shown
   Shown : List ℕ → Piece
-  -- texts that are hidden, one behind another
+  -- texts that are hidden, in sequence
   Hidden : List (List ℕ) → Piece
 
 abbrev pub texts_in : Piece → List (List ℕ)
@@ -22,7 +22,7 @@ abbrev pub IsOfKind : List Formula → Piece → Type 0
 IsOfKind place (Shown text) = LineHolds place text
 IsOfKind place (Hidden run) = (0 < length run) × AllByRecursion (λ text. LineHolds place text → ⊥) run
 
--- no run stands right behind another
+-- no run directly follows another
 abbrev pub are_apart : List Piece → Bool
 are_apart [] = true
 are_apart (Shown text ∷ parts) = are_apart parts
@@ -47,7 +47,7 @@ abbrev pub pieces_by : (List ℕ → Bool) → List (List ℕ) → List Piece
 pieces_by test [] = []
 pieces_by test (text ∷ texts) = if test text then Shown text ∷ pieces_by test texts else hidden_before text (pieces_by test texts)
 
--- The pieces of a content. `OneParting` is the law of them that counts.
+-- The pieces of a content. The law of them that matters is `OneParting`.
 abbrev pub pieces : List ℕ → List Formula → List Piece
 pieces bytes place = pieces_by (line_holds place) (lines_of bytes).texts
 
@@ -70,7 +70,7 @@ piece_lines n [] = []
 piece_lines n (Shown text ∷ pieces) = (43 ∷ text) ∷ piece_lines n pieces
 piece_lines n (Hidden run ∷ pieces) = mark_of n run ∷ piece_lines (n + 1) pieces
 
--- `!` stands last where the last text has no line feed
+-- `!` is the last line if the last text has no line feed
 abbrev pub view_lines : List Piece → Bool → List (List ℕ)
 view_lines pieces is_open = piece_lines 1 pieces ++ (if is_open then codes "!" ∷ [] else [])
 

@@ -1,10 +1,10 @@
-//! Parts of a file: the lines that satisfy a formula, and what an edited view of them means for the file.
-//! So far definitions, and the laws that they keep, each the contract of a function with nothing to do.
+//! Parts of a file: the lines of which a formula holds, and what an edited view of them means for the file. The crate has definitions, and
+//! the laws that they keep, each the contract of a function with nothing to do.
 #![tactic(auto)]
 
 ghost use Rattle.lis_views.specs.Laws.{OneCut, OneParting, UnchangedStays, HiddenStay, EditsStand};
 
-/// Each content is that of exactly one list of texts without line feeds, of which the last may lack its own.
+/// Each content is that of exactly one list of texts without line feeds. Only the last text may lack the line feed after it.
 pub fn contents_are_cut()
     ensures { OneCut }
 {}
@@ -19,8 +19,8 @@ pub fn unchanged_stays()
     ensures { UnchangedStays }
 {}
 
-/// Where an edited view gives new bytes, the hidden texts stand in them in their order, at their marks, and all other texts
-/// are those of the input in order.
+/// If an edited view gives new bytes, the hidden texts are in them in their order, at their marks, and all other texts are those of the
+/// input in order.
 pub fn hidden_stay()
     ensures { HiddenStay }
 {}

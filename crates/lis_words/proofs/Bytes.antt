@@ -1,4 +1,4 @@
--- The length of bytes with zeros behind them.
+-- The length of bytes that are padded with zeros.
 use Rattle.std.proofs.Common.{◌≡◌, ℕ, ◌-◌, ◌≤◌, List, length, replicate, arith, length-append}
 use Rattle.std.proofs.lemmas.List.{length-replicate}
 use Rattle.lis_words.specs.Bytes.{padded}

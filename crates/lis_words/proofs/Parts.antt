@@ -1,4 +1,4 @@
--- The two sides of the first colon, by its place.
+-- The two sides of the first colon, by its index.
 use Rattle.std.proofs.Common.{◌≡◌, ℕ, ◌+◌, ◌<◌, ◌≤◌, ◌^◌, Bool, true, false, not, cond, List, [], ◌∷◌, length, take, drop, refl, ap, sym, ◌∙◌, arith, suc}
 use Rattle.std.specs.List.{prefix_len}
 use Rattle.std.proofs.Math.Nat.{pow-le-pow_right}
@@ -30,7 +30,7 @@ value_behind (b ∷ bytes) = by (is_colon b) refl (value_behind bytes)
     by true e more = refl
     by false e more = rw (one_more (colon_place bytes)) more
 
--- twelve digits stay far below the end of a 64-bit number
+-- twelve digits stay far below the largest 64-bit number
 pub digit_fits : (n i : ℕ) → n < 10 ^ i → i < 12 → n < 10 ^ 11
 digit_fits n i below few =
     let le : i ≤ 11 = omega arith in

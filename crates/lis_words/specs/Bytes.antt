@@ -34,6 +34,6 @@ without_return [] = []
 without_return (b ∷ []) = if b == 13 then [] else b ∷ []
 without_return (b ∷ c ∷ bytes) = b ∷ without_return (c ∷ bytes)
 
--- the bytes, with zeros behind them up to so many in all
+-- the bytes, with zeros after them up to n bytes in all
 abbrev pub padded : ℕ → List ℕ → List ℕ
 padded n bytes = bytes ++ replicate (n - length bytes) 0

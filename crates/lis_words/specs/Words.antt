@@ -25,17 +25,17 @@ abbrev pub begins_with_stop : List ℕ → Bool
 begins_with_stop [] = false
 begins_with_stop (b ∷ bytes) = b == 46
 
--- 1 to 60 plain bytes, the first no full stop
+-- 1 to 60 plain bytes, the first not a full stop
 abbrev pub is_plain_word : List ℕ → Bool
 is_plain_word bytes =
     nat_lt 0 (length bytes) && nat_le (length bytes) MAX_WORD && not (begins_with_stop bytes) && list_all is_plain_byte bytes
 
--- what stands before the first colon
+-- what is before the first colon
 abbrev pub stem : List ℕ → List ℕ
 stem [] = []
 stem (b ∷ bytes) = if is_colon b then [] else b ∷ stem bytes
 
--- what stands after the first colon
+-- what follows the first colon
 abbrev pub value : List ℕ → List ℕ
 value [] = []
 value (b ∷ bytes) = if is_colon b then bytes else value bytes
@@ -71,7 +71,7 @@ begins_with_zero (b ∷ bytes) = b == 48
 abbrev pub is_number : List ℕ → Bool
 is_number digits = is_count digits && (not (begins_with_zero digits) || (length digits == 1))
 
--- the number behind a sign, where nothing else stands there
+-- the number after a sign, if nothing else is there
 abbrev pub number_behind : List ℕ → List ℕ → Option ℕ
 number_behind sign word =
     if same_word (take (length sign) word) sign && is_number (drop (length sign) word) then Some (count_of (drop (length sign) word)) else None
@@ -81,7 +81,7 @@ test_by (Some n) below = Some (record { at_least = true; bytes = n })
 test_by None (Some n) = Some (record { at_least = false; bytes = n })
 test_by None None = None
 
--- which test a word is: whether it asks for so many bytes at least, or for fewer; none where the word is no test
+-- which test a word is: whether it requires at least N bytes, or fewer; none if the word is no test
 abbrev pub test_of : List ℕ → Option Test
 test_of word = test_by (number_behind (codes "size>=") word) (number_behind (codes "size<") word)
 

@@ -54,14 +54,14 @@ pub fn is_plain_word(bytes: &[u8]) -> bool
     are_plain(bytes)
 }
 
-/// How many bytes stand before the first colon; all of them where there is none.
+/// How many bytes are before the first colon; all of them if there is none.
 fn colon_place(bytes: &[u8]) -> usize
     ensures { result ≡ prefix_len (λ b. not (is_colon b)) bytes.now }
 {
     bytes.iter().take_while(|byte| **byte != b':').count()
 }
 
-/// What stands before and after the first colon; without a colon there is nothing after it.
+/// What is before and after the first colon. Without a colon, all bytes are before it.
 pub fn split_at_colon(bytes: &[u8]) -> (&[u8], &[u8])
     ensures stem { result.0.now ≡ stem bytes.now }
     ensures value { result.1.now ≡ value bytes.now }
@@ -103,7 +103,7 @@ pub fn is_head(bytes: &[u8]) -> bool
     value.is_empty()
 }
 
-/// Whether these are the bytes of a valued word: a head and a value behind it.
+/// Whether these are the bytes of a valued word: a head, and then a value.
 pub fn is_valued(bytes: &[u8]) -> bool
     ensures { result ≡ is_valued bytes.now }
 {
@@ -186,7 +186,7 @@ fn digits_value(digits: &[u8]) -> u64
     n
 }
 
-/// The number that a count spells: below 10^12, and None where the bytes are no count.
+/// The number that a count spells, below 10^12. None if the bytes are no count.
 pub fn read_count(bytes: &[u8]) -> Option<u64>
     ensures counts { IsSome result ↔ IsTrue (is_count bytes.now) }
     ensures number { IfSome result (λ n. n ≡ count_of bytes.now) }
@@ -216,7 +216,7 @@ fn is_number(digits: &[u8]) -> bool
     !begins_with_zero(digits) || digits.len() == 1
 }
 
-/// The number behind a sign, where nothing else stands there.
+/// The number after a sign. None if the bytes are not the sign and then a number.
 fn number_behind(sign: &[u8], bytes: &[u8]) -> Option<u64>
     ensures { result ≡ number_behind sign.now bytes.now }
 {
@@ -230,7 +230,7 @@ fn number_behind(sign: &[u8], bytes: &[u8]) -> Option<u64>
     read_count(digits)
 }
 
-/// Which test the bytes are. None comes exactly where they are none.
+/// Which test the bytes are. None exactly if they are no test.
 pub fn test_in(bytes: &[u8]) -> Option<Test>
     ensures { result ≡ test_of bytes.now }
 {

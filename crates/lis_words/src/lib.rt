@@ -1,4 +1,4 @@
-//! Words, file names and counts: what their bytes may be, and values that keep it.
+//! Words, file names and counts: what their bytes may be, and types whose values keep to it.
 #![tactic(auto)]
 
 mod forms;

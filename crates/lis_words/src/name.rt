@@ -27,7 +27,7 @@ impl Model for Name {
     ghost inverse = { λ bytes. record { held = record { items = bytes } } };
 }
 
-/// Reads a file name. None comes exactly where the bytes are no file name.
+/// Reads a file name. None exactly if the bytes are no file name.
 pub fn read_name(bytes: &[u8]) -> Option<Name>
     ensures name { IsSome result ↔ IsTrue (is_file_name bytes.now) }
     ensures same { IfSome result (λ name. name ≡ bytes.now) }
@@ -58,7 +58,7 @@ impl Name {
         self.held.len()
     }
 
-    /// The same name, without memory taken: unlike `clone`, it can't fail.
+    /// The same name, without an allocation: unlike `clone`, it can't fail.
     pub fn copied(&self) -> Name
         ensures { result ≡ self.now }
     {

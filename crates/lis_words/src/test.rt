@@ -1,6 +1,6 @@
-//! What a test asks of a size.
+//! What a test requires of a size.
 
-/// What a test asks of a size: so many bytes at least, as `size>=` does, or fewer than so many, as `size<` does.
+/// What a test requires of a size: at least `bytes` bytes, as `size>=` does, or fewer, as `size<` does.
 #[derive(Clone, Copy)]
 pub struct Test {
     pub at_least: bool,

@@ -44,7 +44,7 @@ impl Model for Word {
     ghost inverse = { λ bytes. record { held = record { items = bytes } } };
 }
 
-/// The word `_`, for a container of fixed capacity that wants a value to begin with.
+/// The word `_`, for a container of fixed capacity that needs an initial value.
 impl Default for Word {
     ghost is_default = { λ w. w ≡ codes "_" };
 
@@ -64,7 +64,7 @@ fn held(bytes: &[u8]) -> ArrayVec<u8, 60>
     held
 }
 
-/// Reads a word. None comes exactly where the bytes are no word.
+/// Reads a word. None exactly if the bytes are no word.
 #[tactic(auto, using(crate::proofs::Tests::property_short))]
 pub fn read_word(bytes: &[u8]) -> Option<Word>
     ensures word { IsSome result ↔ IsTrue (is_property bytes.now) }
@@ -77,7 +77,7 @@ pub fn read_word(bytes: &[u8]) -> Option<Word>
     Some(Word { held })
 }
 
-/// Reads a word that a formula may have. None comes exactly where the bytes are none: a test is no such word.
+/// Reads a word that a formula may have. None exactly if the bytes are no such word: a test is not one.
 pub fn read_formula_word(bytes: &[u8]) -> Option<Word>
     ensures word { IsSome result ↔ IsTrue (is_word bytes.now) }
     ensures same { IfSome result (λ word. word ≡ bytes.now) }
@@ -106,7 +106,7 @@ impl Word {
         self.held.len()
     }
 
-    /// The same word, without memory taken: unlike `clone`, it can't fail.
+    /// The same word, without an allocation: unlike `clone`, it can't fail.
     pub fn copied(&self) -> Word
         ensures { result ≡ self.now }
     {
@@ -132,7 +132,7 @@ pub fn kind(word: &Word) -> PropKind
     PropKind::Test
 }
 
-/// Which test the word is. None comes exactly where it is no test.
+/// Which test the word is. None exactly if it is no test.
 pub fn test_of(word: &Word) -> Option<Test>
     ensures { result ≡ test_of word.now }
 {
@@ -158,7 +158,7 @@ fn head(word: &Word) -> Word
     Word { held }
 }
 
-/// The head of a valued word. None comes exactly where the word is not valued.
+/// The head of a valued word. None exactly if the word is not valued.
 pub fn head_of(word: &Word) -> Option<Word>
     ensures valued { IsSome result ↔ IsTrue (is_valued word.now) }
     ensures head { IfSome result (λ head. head ≡ head_bytes word.now) }
@@ -213,7 +213,7 @@ pub fn is_builtin(word: &Word) -> bool
     has_builtin_head(word)
 }
 
-/// The word of a head and a value. None comes exactly where the first is no head, or the two are no valued word.
+/// The word of a head and a value. None exactly if the first is no head, or the two are no valued word.
 #[tactic(auto, using(crate::proofs::Tests::valued_is_property))]
 pub fn with_value(head: &Word, value: &[u8]) -> Option<Word>
     ensures valued { IsSome result ↔ (IsTrue (is_head head.now) × IsTrue (is_valued (head.now ++ value.now))) }

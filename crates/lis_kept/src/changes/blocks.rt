@@ -1,4 +1,4 @@
-//! Blocks that contents take, and give back.
+//! Blocks that contents take, and blocks that are freed.
 
 ghost use Rattle.std.specs.Prelude.{◌≡◌, ℕ, ◌+◌, ◌≤◌, true, [], List, Some, length, slice_set, IsSome, IsTrue, OnOk, OnErr, MatchResult};
 ghost use Rattle.lis_ports.specs.Calls.{UsesDisk, ReadsDisk};
@@ -35,8 +35,8 @@ fn mark_bitmap(marks: &mut Flags, limits: &Limits)
 }
 
 impl Metadata {
-    /// Puts bytes into free blocks, which it takes, and answers the numbers that a slot has of them. They are staged; where they are
-    /// large, they are placed, with an index block, and then nothing may be staged. After a fault of the disk the journal is broken.
+    /// Puts bytes into free blocks, which it takes, and returns the numbers for the slot. The bytes are staged; if they are large, they are
+    /// placed, with an index block, and then nothing may be staged. After a disk fault the journal is broken.
     pub fn put_content<D: Disk>(
         &mut self,
         journal: &mut Journal,
@@ -71,7 +71,7 @@ impl Metadata {
         }
     }
 
-    /// Gives the blocks of the file in a slot back. Those that its index block numbers are read from the disk; where that fails, none is given back.
+    /// Frees the blocks of the file in a slot. The numbers in its index block are read from the disk; if that fails, no block is freed.
     pub fn give_blocks<D: Disk>(
         &mut self,
         journal: &Journal,

@@ -1,4 +1,4 @@
-//! A declared word that goes.
+//! Removing a declared word.
 
 ghost use Rattle.std.specs.Prelude.{◌≡◌, ℕ, Bool, is_some, IsSome};
 ghost use Rattle.std.specs.List.{list_any};
@@ -33,7 +33,7 @@ fn is_named_by(dict: &Dict, slot: AxiomSlot, number: u16) -> bool
     is_on_left(dict, slot, number) || is_right_of(slot, number)
 }
 
-// Whether some axiom does.
+// Whether some axiom does so.
 fn is_named(dict: &Dict, axioms: &[AxiomSlot], number: u16) -> bool
     requires { IsShort dict.now }
     ensures { result ≡ list_any (is_named_by dict.now number) axioms.now }
@@ -52,7 +52,7 @@ fn is_test(dict: &Dict, number: u16) -> bool
 }
 
 impl Metadata {
-    /// Whether a number's word may not go, if it is declared: it is no test and some description has it, or an axiom names it.
+    /// Whether a number's word may not be removed, if it is declared: it is no test and some description has it, or an axiom names it.
     pub fn is_needed(&self, number: u16) -> bool
         requires { IsSome (word_of self.now.dict number) }
         ensures { result ≡ is_needed self.now number }
@@ -63,7 +63,7 @@ impl Metadata {
         is_named(&self.dict, self.axioms.as_slice(), number)
     }
 
-    /// Takes the declaration of a word back, and with it its number.
+    /// Removes the declaration of a word, and with it its number.
     pub fn undeclare(&mut self, number: u16)
         requires { MayUndeclare number self.old }
         ensures undeclares { Undeclares number self.old self.new }

@@ -11,7 +11,7 @@ ghost use Rattle.lis_kept.specs.Telling.{is_had, is_used};
 use crate::metadata::Metadata;
 use lis_ext::Ext;
 
-// Whether the description in a slot, if it is one, has a number.
+// Whether the description in a slot, if there is such a slot, has a number.
 fn has_at(ext: &Ext, slot: u16, number: u16) -> bool
     requires { number < ext.now.props }
     ensures { result ≡ has ext.now number slot }
@@ -44,7 +44,7 @@ impl Metadata {
         self.is_used_beside(Some(slot), number)
     }
 
-    /// Forgets the words of those numbers that nothing uses but the description in a slot without a file.
+    /// Forgets the words of those numbers that nothing uses except the description in a slot without a file.
     pub fn forget_without(&mut self, slot: u16, numbers: &[u16])
         requires slot { slot < self.old.limits.files }
         requires empty { rec_at self.old.catalog slot ≡ None }

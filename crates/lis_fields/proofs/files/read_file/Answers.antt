@@ -7,7 +7,7 @@ use Rattle.lis_fields.proofs.Widths.{are_zero, not_zeros, zeros_of}
 use Rattle.lis_fields.proofs.Parts.{length_file}
 use Rattle.lis_fields.proofs.files.read_file.Goals as goal
 
--- no slot, where no record is spelled
+-- no slot, if no record is spelled
 none_used : (version : ℕ) (slot : FileSlot) (bytes : List ℕ) → IsTrue (is_file version slot) → bytes ≡ file_bytes slot → are_zero bytes ≡ false
     → ((rec : FileRecord) → IsTrue (is_record version rec) → bytes ≡ record_bytes rec → ⊥) → ⊥
 unfolding file_bytes

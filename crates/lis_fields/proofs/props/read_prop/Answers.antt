@@ -8,7 +8,7 @@ use Rattle.lis_fields.proofs.Widths.{are_zero, not_zeros, zeros_of}
 use Rattle.lis_fields.proofs.Parts.{length_prop, undeclared_word, declarable_word}
 use Rattle.lis_fields.proofs.props.read_prop.Goals as goal
 
--- no slot, where no kind and word are spelled
+-- no slot, if no kind and word are spelled
 none_named : (slot : PropSlot) (bytes : List ℕ) → IsTrue (is_prop slot) → bytes ≡ prop_bytes slot → are_zero bytes ≡ false
     → ((kind : ℕ) (word : List ℕ) → IsTrue (is_property word) → bytes ≡ named kind word → ⊥) → ⊥
 unfolding prop_bytes

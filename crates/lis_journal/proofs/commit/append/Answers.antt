@@ -1,4 +1,4 @@
--- The answers of a record more: it is written, and then its gate is opened.
+-- The answers of one more record: it is written, and then its gate is opened.
 use Rattle.std.proofs.Common.{◌∙◌, arith}
 use Rattle.lis_ports.proofs.Moments.{leaves_then}
 use Rattle.lis_journal.proofs.Saving.{plan_of, on_ok, record_moments, record_written, opening_moments, appended, torn_past, then_past}
