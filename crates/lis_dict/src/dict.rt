@@ -143,6 +143,7 @@ impl Dict {
 
     /// The indexes in byte order between which all tests are: from the first one on, and before the second one.
     pub fn tests(&self) -> (u32, u32)
+        ensures kept { IsDict self.now }
         ensures rise { result.0 ≤ result.1 }
         ensures within { result.1 ≤ length self.now.entries }
         ensures before { (k : ℕ) (e : List ℕ × ℕ) → k < result.0 → slice_get self.now.entries k ≡ Some e → test_of e.0 ≡ None }

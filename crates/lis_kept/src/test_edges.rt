@@ -95,14 +95,19 @@ fn number_of(found: Option<Found>) -> Option<u32>
 }
 
 // The number of the nearest declared test on that side of a test.
-fn nearest(dict: &Dict, declared: &Flags, props: u32, test: Test, side: Side) -> Option<u32>
-    requires few { props ≤ MAX_PROPS }
-    requires bits { length declared.now ≡ props }
-    ensures below { IfSome result (λ number. number < props) }
+fn nearest(dict: &Dict, declared: &Flags, test: Test, side: Side) -> Option<u32>
+    requires few { dict.now.props ≤ MAX_PROPS }
+    requires bits { length declared.now ≡ dict.now.props }
+    ensures below { IfSome result (λ number. number < dict.now.props) }
     ensures neighbour { IsNeighbour side dict.now declared.now (Some test) result }
 {
+    let (start, end) = dict.tests();
     let mut nearest = None;
-    for number in 0..props {
+    for place in start..end {
+        let Some((_, number)) = dict.word_at(place) else {
+            unreachable!()
+        };
+        let number = u32::from(number);
         if let Some(found) = test_past(dict, declared, number, test, side) {
             if is_nearer(nearest, found, side) {
                 nearest = Some(Found {
@@ -115,16 +120,16 @@ fn nearest(dict: &Dict, declared: &Flags, props: u32, test: Test, side: Side) ->
     number_of(nearest)
 }
 
-// The number of the nearest declared test on that side of a number's test, if the number has one.
-fn neighbour(dict: &Dict, declared: &Flags, props: u32, number: u32, side: Side) -> Option<u32>
-    requires few { props ≤ MAX_PROPS }
-    requires number { number < props }
-    requires bits { length declared.now ≡ props }
-    ensures below { IfSome result (λ found. found < props) }
+// The number of the nearest declared test on that side of a number's, where this has one.
+fn neighbour(dict: &Dict, declared: &Flags, number: u32, side: Side) -> Option<u32>
+    requires few { dict.now.props ≤ MAX_PROPS }
+    requires number { number < dict.now.props }
+    requires bits { length declared.now ≡ dict.now.props }
+    ensures below { IfSome result (λ found. found < dict.now.props) }
     ensures neighbour { IsNeighbour side dict.now declared.now (declared_test dict.now declared.now number) result }
 {
     let test = declared_test(dict, declared, number)?;
-    nearest(dict, declared, props, test, side)
+    nearest(dict, declared, test, side)
 }
 
 // Adds the edge from a test to a weaker one, if both are given. The edge may be there already.
@@ -184,7 +189,7 @@ pub fn link_next(dict: &Dict, declared: &Flags, taxonomy: &mut Taxonomy, props: 
     ensures linked { LinksNext dict.now declared.now number taxonomy.old taxonomy.new }
     ensures ordered { TestsAreOrdered dict.now taxonomy.new }
 {
-    let weaker = neighbour(dict, declared, props, number, Side::Weaker);
+    let weaker = neighbour(dict, declared, number, Side::Weaker);
     link_pair(dict, declared, taxonomy, Some(number), weaker);
 }
 
@@ -199,13 +204,14 @@ pub(crate) fn insert_test(
     requires props { props ≡ taxonomy.old.props }
     requires few { props ≤ MAX_PROPS }
     requires number { number < props }
+    requires names { dict.now.props ≡ props }
     requires bits { length declared.now ≡ props }
     requires ordered { TestsAreOrdered dict.now taxonomy.old }
     requires room { edge_count taxonomy.old + 2 ≤ edge_room taxonomy.old.props }
     ensures { InsertsTest dict.now declared.now number taxonomy.old taxonomy.new }
 {
-    let weaker = neighbour(dict, declared, props, number, Side::Weaker);
-    let stronger = neighbour(dict, declared, props, number, Side::Stronger);
+    let weaker = neighbour(dict, declared, number, Side::Weaker);
+    let stronger = neighbour(dict, declared, number, Side::Stronger);
     unlink_pair(dict, taxonomy, stronger, weaker);
     link_pair(dict, declared, taxonomy, Some(number), weaker);
     link_pair(dict, declared, taxonomy, stronger, Some(number));
@@ -222,13 +228,14 @@ pub(crate) fn remove_test(
     requires props { props ≡ taxonomy.old.props }
     requires few { props ≤ MAX_PROPS }
     requires number { number < props }
+    requires names { dict.now.props ≡ props }
     requires bits { length declared.now ≡ props }
     requires ordered { TestsAreOrdered dict.now taxonomy.old }
     requires room { edge_count taxonomy.old < edge_room taxonomy.old.props }
     ensures { RemovesTest dict.now declared.now number taxonomy.old taxonomy.new }
 {
-    let weaker = neighbour(dict, declared, props, number, Side::Weaker);
-    let stronger = neighbour(dict, declared, props, number, Side::Stronger);
+    let weaker = neighbour(dict, declared, number, Side::Weaker);
+    let stronger = neighbour(dict, declared, number, Side::Stronger);
     unlink_pair(dict, taxonomy, Some(number), weaker);
     unlink_pair(dict, taxonomy, stronger, Some(number));
     link_pair(dict, declared, taxonomy, stronger, weaker);
