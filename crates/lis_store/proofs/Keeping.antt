@@ -18,6 +18,11 @@ left_committed old new (Ok done) whole = whole.0
 left_committed old new (Err (Refused refusal)) never = absurd (let e : false ≡ true = never in cc)
 left_committed old new (Err Disk) broken = broken
 
+-- a commit that failed met a fault of the disk
+pub left_unrefused : {T U : Type 0} (new : Stored) (fault : ChangeFault) (result : Result T ChangeFault) → CommitLeft {T = U} new (Err fault) → result ≡ Err fault → EndsUnrefused new.is_broken result
+left_unrefused new (Refused refusal) result never is = absurd (let e : false ≡ true = never in cc)
+left_unrefused new Disk result broken is = subst (λ r. EndsUnrefused new.is_broken r) (sym is) broken
+
 -- memory was changed, and then it was saved
 pub keeps_saved : {T : Type 0} {old now made new : Stored} {result : Result T ChangeFault} → old ≡ now → made.metadata.limits ≡ old.metadata.limits → AreEditsFew old.metadata.ext made.metadata.ext
     → shape_of made.journal ≡ shape_of old.journal → SaveKeeps made new result → ChangeKeeps now new result

@@ -44,6 +44,7 @@ pub mod Tested
 pub mod Without
 pub mod Gathered
 pub mod MetTests
+pub mod Found
 pub mod Measured
 pub mod Admitted
 pub mod Steps

@@ -1,25 +1,23 @@
 -- How many words the description of a new file has, and how many of them are not known yet.
 use Rattle.std.proofs.Common.{rules}
-use Rattle.lis_store.proofs.Common.{◌≡◌, ◌⊎◌, refl, sym, ap, ap₂, ◌∙◌, subst, inl, inr, ℕ, zero, suc, ◌+◌, ◌<◌, ◌≤◌, Bool, true, false, not, ◌&&◌, ◌||◌, is_some, is_none, Option, Some, None, option_to_list, IsSome, List, [], ◌∷◌, ◌++◌, length, map, arith, flat_map, range_with_len, nat_cmp, nat_cmp_total, tied_itself, Ordering, IsStrictlySortedBy, and-true, and-false, or-false, and_parts, not-true, none-some, Among, among_from_contains, among_flat_map, among_filter, filter_among, below_tail, sorted_tail, HasShape, get, with_row, number_of, word_of, number_from_word, word_from_number, word_cmp, has_word, is_valued, head_bytes, with_words, heads, up, all_up, met_tests, word_exact, among_from_has_word, among_with_words, with_words_new, sorted_with_words, sorted_set_of, head_not_valued, among_heads, up_self, entails_from_up, up_from_entails, Head, Weaker, entailing, sorted_all_up, Metadata, AreSound, declared_of, axioms_of, among_where, where_among, numbers_same, sorted_where, among_axiom, declared_has_number, word_among, among_word, some_word, both_ways, false_from_ne_true, sum_by-cons, Chain, flat_map_among, links, has_word_from_among, with_words_old, same_words, OwnLink, up_trans, entailed_in, same_tests, words_told, among_from_number, number_from_among, one_number, only_word}
+use Rattle.lis_store.proofs.Common.{◌≡◌, ◌⊎◌, refl, sym, ap, ap₂, ◌∙◌, subst, inl, inr, ℕ, zero, suc, ◌+◌, ◌<◌, ◌≤◌, Bool, true, false, not, ◌&&◌, ◌||◌, is_some, is_none, Option, Some, None, option_to_list, IsSome, List, [], ◌∷◌, ◌++◌, length, arith, flat_map, nat_cmp, nat_cmp_total, tied_itself, Ordering, IsStrictlySortedBy, and-true, and-false, or-false, and_parts, not-true, none-some, Among, among_from_contains, among_flat_map, below_tail, sorted_tail, number_of, word_of, number_from_word, word_from_number, word_cmp, has_word, is_valued, head_bytes, with_words, heads, up, all_up, met_tests, word_exact, among_from_has_word, among_with_words, with_words_new, sorted_with_words, sorted_set_of, head_not_valued, among_heads, up_self, entails_from_up, up_from_entails, Head, Weaker, entailing, sorted_all_up, Metadata, AreSound, declared_of, axioms_of, among_where, where_among, sorted_where, among_axiom, declared_has_number, word_among, among_word, some_word, both_ways, false_from_ne_true, Chain, flat_map_among, links, has_word_from_among, with_words_old, same_words, OwnLink, up_trans, entailed_in, same_tests, words_told, among_from_number, number_from_among, one_number, only_word}
 use Rattle.lis_ext.specs.Numbers.{numbers_where}
-use Rattle.std.specs.Prelude.{count_by}
 use Rattle.std.specs.Cmp.{IsTotalOrder}
-use Rattle.std.proofs.lemmas.List.Sums.{length-filter}
 use Rattle.lis_graph.specs.Graph.{Linked}
-use Rattle.lis_bits.specs.Rows.{Rows, row_of, true_count}
-use Rattle.lis_bits.proofs.Laws.{row-with_row}
+use Rattle.lis_taxonomy.specs.Search.{is_found}
 use Rattle.lis_model.specs.Noted.{are_distinct_words}
 use Rattle.lis_laws.proofs.Chains.{heads_of_valued, own_link, links_head, up_own}
 use Rattle.lis_kept.proofs.Described.{few_where}
 use Rattle.lis_store.specs.Drafts.{Draft}
-use Rattle.lis_store.specs.Admitting.{described_by}
+use Rattle.lis_store.specs.Admitting.{described_words, described_by}
+use Rattle.lis_store.specs.Finding.{FindsAll}
 use Rattle.lis_store.specs.Adding.{is_one_of}
-use Rattle.lis_store.specs.Describing.{with_heads, with_numbers, Gathers, HasNumbers, IsTold}
+use Rattle.lis_store.specs.Describing.{with_heads, Notes, IsFound}
 use Rattle.lis_store.proofs.Entailment.{up_has_number}
-use Rattle.lis_store.proofs.Entailed.{ups_both, bits_then}
+use Rattle.lis_store.proofs.Entailed.{ups_both}
 use Rattle.lis_store.proofs.Gathered.{numbered_below}
 use Rattle.lis_store.proofs.MetTests.{met_numbered}
-use Rattle.lis_store.proofs.Naming.{one_of, same_shape, value_at}
+use Rattle.lis_store.proofs.Naming.{one_of}
 use Rattle.lis_store.proofs.Points.{AllApart, no_tie, length-with_more}
 
 -- ---- lists without repeats
@@ -34,15 +32,7 @@ sorted_apart cmp order [] sorted = tt
 sorted_apart cmp order (x ∷ xs) sorted =
     (λ m. no_tie cmp order x x xs (below_tail cmp order x xs sorted) m (tied_itself order x), sorted_apart cmp order xs (sorted_tail cmp order x xs sorted))
 
--- ---- the true bits of a row
-count_map : (f : ℕ → Bool) (xs : List ℕ) → count_by (λ (b : Bool). b) (map f xs) ≡ count_by f xs
-count_map f [] = refl
-count_map f (x ∷ xs) = search (rules, sum_by-cons, count_map f xs)
-
-row_counted : (bits : ℕ) (f : ℕ → Bool) → count_by (λ (b : Bool). b) (row_of bits f) ≡ length (numbers_where bits f)
-unfolding row_of numbers_where
-row_counted bits f = count_map f (range_with_len 0 bits) ∙ sym (length-filter f (range_with_len 0 bits))
-
+-- ---- numbers
 pub numbers_apart : (props : ℕ) (test : ℕ → Bool) → AllApart (numbers_where props test)
 numbers_apart props test = sorted_apart nat_cmp nat_cmp_total (numbers_where props test) (sorted_where props test)
 
@@ -164,9 +154,6 @@ module _ (k : Metadata) (sound : AreSound k) where
   abbrev All : List (List ℕ) → List (List ℕ)
   All words = all_up (declared_of k) (axioms_of k) words
 
-  abbrev has_number : List ℕ → Bool
-  has_number w = is_some (number_of k.dict w)
-
   module _ (words : List (List ℕ)) where
     source : (q : List ℕ) → Among (All words) q → (s : List ℕ) × Among (with_heads words) s × Among (Up s) q × (number_of k.dict s ≡ None → s ≡ q)
     source q m =
@@ -178,27 +165,6 @@ module _ (k : Metadata) (sound : AreSound k) where
     of_source s q m there =
         let own = among_flat_map (λ (x : List ℕ). x ∷ heads x) words s m in
         entailed_in (declared_of k) (axioms_of k) words own.0 q own.1 (behind own.0 s q own.2 there)
-
-    -- what has a number is entailed by those that have one
-    numbered_same : (n : ℕ) → is_one_of (All (with_numbers k (with_heads words))) (word_of k.dict n) ≡ is_one_of (All words) (word_of k.dict n)
-    numbered_same n = by (word_of k.dict n) refl
-      where
-        by : (o : Option (List ℕ)) → word_of k.dict n ≡ o → is_one_of (All (with_numbers k (with_heads words))) o ≡ is_one_of (All words) o
-        by None none = refl
-        by (Some w) is =
-            same_tests (has_word (All (with_numbers k (with_heads words))) w) (has_word (All words) w)
-            (λ h.
-            let found = entailing (declared_of k) (axioms_of k) (with_numbers k (with_heads words)) w (among_from_has_word (All (with_numbers k (with_heads words))) w h) in
-            has_word_from_among (All words) w (of_source found.0 w (among_filter has_number (with_heads words) found.0 found.1).0 found.2))
-            (λ h.
-            let found = source w (among_from_has_word (All words) w h) in
-            has_word_from_among (All (with_numbers k (with_heads words))) w
-            (entailed_in (declared_of k) (axioms_of k) (with_numbers k (with_heads words)) found.0 w
-            (filter_among has_number (with_heads words) found.0 found.1 (some found.0 (number_of k.dict found.0) refl found.3)) found.2))
-          where
-            some : (s : List ℕ) (o : Option ℕ) → number_of k.dict s ≡ o → (number_of k.dict s ≡ None → s ≡ w) → has_number s ≡ true
-            some s (Some m) e one = ap (λ (o : Option ℕ). is_some o) e
-            some s None e one = absurd (none-some n (sym (ap (number_of k.dict) (sym (one e)) ∙ e) ∙ number_from_word k.dict sound.dict w n is))
 
     -- what has no number is one of them, or a head
     noted_same : (w : List ℕ) → number_of k.dict w ≡ None → has_word (with_heads words) w ≡ has_word (All words) w
@@ -214,31 +180,20 @@ module _ (k : Metadata) (sound : AreSound k) where
         without s (Some m) e there =
             absurd (let found = up_has_number k sound m s w (word_from_number k.dict sound.dict s m e) there in none-some found.0 (sym none ∙ number_from_word k.dict sound.dict w found.0 found.1))
 
-  -- ---- a description is computed
-  module _ (draft : Draft) (start full one two last row : Rows) (few fresh : List (List ℕ))
-      (shape : HasShape start 1 k.limits.props) (is_full : full ≡ with_row start 0 (λ _. true))
-      (first : Gathers k (with_heads draft.assigned) full one [] few) (second : Gathers k (with_heads draft.own) one two few fresh)
-      (last_shape : HasShape last 1 k.limits.props)
-      (third : (n : ℕ) → n < k.limits.props → get last 0 n ≡ (get two 0 n && not (is_one_of (all_up (declared_of k) (axioms_of k) (met_tests (declared_of k) draft.size)) (word_of k.dict n))))
-      (turned : row ≡ with_row last 0 (λ bit. not (get last 0 bit))) where
+  -- ---- a description is found
+  module _ (draft : Draft) (found : List ℕ) (some fresh : List (List ℕ)) (finds : FindsAll k (described_words k draft) found)
+      (first : Notes k (with_heads draft.assigned) [] some) (second : Notes k (with_heads draft.own) some fresh) where
     abbrev tests : List (List ℕ)
     tests = met_tests (declared_of k) draft.size
-
-    told_numbers : HasNumbers k row draft
-    told_numbers =
-        bits_then k sound draft.assigned draft.own tests start full one two last row shape is_full
-        (λ n lt. first.bits n lt ∙ ap (λ b. get full 0 n && not b) (numbered_same draft.assigned n))
-        (λ n lt. second.bits n lt ∙ ap (λ b. get one 0 n && not b) (numbered_same draft.own n))
-        last_shape third turned
 
     noted : (w : List ℕ) → has_word fresh w ≡ ((has_word (with_heads draft.assigned) w && is_none (number_of k.dict w)) || (has_word (with_heads draft.own) w && is_none (number_of k.dict w)))
     noted w = second.noted w ∙ ap (λ b. b || (has_word (with_heads draft.own) w && is_none (number_of k.dict w))) (first.noted w)
 
-    told_new : (w : List ℕ) → has_word fresh w ≡ true → number_of k.dict w ≡ None
-    told_new w has = search (rules, noted, both_ways, and-false)
+    found_new : (w : List ℕ) → has_word fresh w ≡ true → number_of k.dict w ≡ None
+    found_new w has = search (rules, noted, both_ways, and-false)
 
-    told_others : (w : List ℕ) → number_of k.dict w ≡ None → has_word (described_by k draft) w ≡ has_word fresh w
-    told_others w none =
+    found_others : (w : List ℕ) → number_of k.dict w ≡ None → has_word (described_by k draft) w ≡ has_word fresh w
+    found_others w none =
         ups_both (declared_of k) (axioms_of k) (Some w) (draft.assigned ++ draft.own) tests
         ∙ (ap₂ (λ a b. a || b) (ups_both (declared_of k) (axioms_of k) (Some w) draft.assigned draft.own) untested
         ∙ (or-false (has_word (All draft.assigned) w || has_word (All draft.own) w)
@@ -256,32 +211,23 @@ module _ (k : Metadata) (sound : AreSound k) where
             let found = up_has_number k sound number.0 test.0 w number.1 test.2 in
             none-some found.0 (sym none ∙ number_from_word k.dict sound.dict w found.0 found.1))
 
-    told_count : true_count row 0 ≡ length (numbers_where k.limits.props (get row 0))
-    told_count =
-        let off : ℕ → Bool = λ bit. not (get last 0 bit) in
-        ap (λ (r : Rows). true_count r 0) turned
-        ∙ (ap (λ bits. count_by (λ (b : Bool). b) bits) (row-with_row last 0 off (omega (arith, last_shape.tall)))
-        ∙ (ap (λ n. count_by (λ (b : Bool). b) (row_of n off)) last_shape.wide
-        ∙ (row_counted k.limits.props off
-        ∙ ap length (numbers_same k.limits.props off (get row 0) (λ n lt. sym (value_at last row k.limits.props n off last_shape turned lt))))))
-
-    pub file_told : IsTold k draft row fresh
-    file_told = search (rules, told_count, same_shape, told_numbers, told_new, told_others)
+    pub draft_found : IsFound k draft found fresh
+    draft_found = search (rules, finds, first, second, found_new, found_others)
 
   -- ---- and measured
-  module _ (draft : Draft) (row : Rows) (fresh : List (List ℕ)) (told : IsTold k draft row fresh) where
-    described_is : IsCounted (get row 0) fresh (described_by k draft)
+  module _ (draft : Draft) (found : List ℕ) (fresh : List (List ℕ)) (is : IsFound k draft found fresh) where
+    described_is : IsCounted (is_found found) fresh (described_by k draft)
     described_is = record {
-      sorted = sorted_all_up (declared_of k) (axioms_of k) (draft.assigned ++ draft.own ++ met_tests (declared_of k) draft.size);
-      named = λ n lt on. ap (λ (o : Option (List ℕ)). is_some o) (one_of (described_by k draft) (word_of k.dict n) (sym (told.numbers n lt) ∙ on)).1;
-      numbered = λ w n is. sym (told.numbers n (numbered_below k sound w n is) ∙ ap (is_one_of (described_by k draft)) is);
-      once = told.once;
-      new = told.new;
-      others = told.others;
+      sorted = sorted_all_up (declared_of k) (axioms_of k) (described_words k draft);
+      named = λ n lt on. ap (λ (o : Option (List ℕ)). is_some o) (one_of (described_by k draft) (word_of k.dict n) (sym (is.finds.named n) ∙ on)).1;
+      numbered = λ w n named. sym (is.finds.named n ∙ ap (is_one_of (described_by k draft)) named);
+      once = is.once;
+      new = is.new;
+      others = is.others;
     }
 
-    pub words_measured : true_count row 0 + length fresh ≡ length (described_by k draft)
-    words_measured = omega (arith, told.count, counted (get row 0) fresh (described_by k draft) described_is)
+    pub words_measured : length found + length fresh ≡ length (described_by k draft)
+    words_measured = omega (arith, is.finds.count, counted (is_found found) fresh (described_by k draft) described_is)
 
-    pub few_numbers : true_count row 0 ≤ k.limits.props
-    few_numbers = omega (arith, told.count, few_where k.limits.props (get row 0) (numbers_where k.limits.props (get row 0)) refl)
+    pub few_numbers : length found ≤ k.limits.props
+    few_numbers = omega (arith, is.finds.count, few_where k.limits.props (is_found found) (numbers_where k.limits.props (is_found found)) refl)

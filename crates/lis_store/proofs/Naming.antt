@@ -1,10 +1,7 @@
 -- The numbers of words.
 use Rattle.std.proofs.Common.{rules}
-use Rattle.lis_store.proofs.Common.{◌≡◌, ◌⊎◌, refl, sym, ap, ap₂, ◌∙◌, subst, inl, inr, ℕ, ◌<◌, ◌≤◌, ◌==◌, not, ◌||◌, if◌then◌else◌, Bool, true, false, List, [], ◌∷◌, ◌++◌, length, filter, Option, Some, None, option_to_list, arith, Less, nat_cmp, nat_cmp_total, tied_itself, AllByRecursion, flat_map, IsStrictlySortedBy, or-false, cases_eq, ne_eqb, not_from_false, list_any-append, same_Some, Among, among_flat_map, filter_among, below_tail, sorted_tail, HasShape, get, with_row, Dict, IsDict, number_of, word_of, word_from_number, number_from_word, number_below, word_cmp, same_word, same_word_decides, among_from_has_word, among_set_of, sorted_set_of, among_where, where_among, numbers_same, sorted_where, some_number, both_ways, eq-eqb, false_from_ne_true, flat_map_among, has_number, numbers_where, filter_drops, has_word_from_among, set_of_among, same_words, same_tests, words_told, among_from_number, number_from_among, only_word}
-use Rattle.std.proofs.Math.Bool.{or-true}
+use Rattle.lis_store.proofs.Common.{◌≡◌, refl, sym, ap, ◌∙◌, subst, inl, inr, ℕ, ◌≤◌, not, ◌||◌, true, false, List, [], ◌∷◌, ◌++◌, length, filter, Option, Some, option_to_list, arith, Less, nat_cmp, nat_cmp_total, tied_itself, AllByRecursion, flat_map, IsStrictlySortedBy, not_from_false, list_any-append, same_Some, Among, among_flat_map, filter_among, below_tail, sorted_tail, Dict, IsDict, number_of, word_of, word_from_number, number_from_word, number_below, word_cmp, same_word, same_word_decides, among_from_has_word, among_set_of, sorted_set_of, among_where, where_among, sorted_where, some_number, false_from_ne_true, flat_map_among, has_number, filter_drops, has_word_from_among, set_of_among, same_words, same_tests, words_told, among_from_number, number_from_among, only_word}
 use Rattle.std.proofs.lemmas.Bool.{not_from_true}
-use Rattle.lis_bits.specs.Rows.{Rows}
-use Rattle.lis_bits.proofs.Laws.{get-with_row_same, length-with_row}
 use Rattle.lis_store.specs.Adding.{is_one_of, numbers_named, AreNumbered}
 
 -- ---- one of these words
@@ -80,61 +77,3 @@ module _ (d : Dict) (dict : IsDict d) (words : List (List ℕ)) where
       let is = word_from_number d dict word number.0 number.1 in
       set_of_among (flat_map (λ n. option_to_list (word_of d n)) (numbers_named d words)) word
       (flat_map_among (λ n. option_to_list (word_of d n)) (numbers_named d words) number.0 word (among_named number.0 word is m) (subst (λ o. Among (option_to_list o) word) (sym is) (inl refl))))
-
--- ---- rows
-pub same_shape : (row new : Rows) (rows bits at : ℕ) (value : ℕ → Bool) → HasShape row rows bits → new ≡ with_row row at value → HasShape new rows bits
-same_shape row new rows bits at value shape is = search (rules, length-with_row)
-
--- a row that was set again
-pub value_at : (row new : Rows) (bits bit : ℕ) (value : ℕ → Bool) → HasShape row 1 bits → new ≡ with_row row 0 value → bit < bits → get new 0 bit ≡ value bit
-value_at row new bits bit value shape is lt = ap (λ (r : Rows). get r 0 bit) is ∙ get-with_row_same row 0 bit value (omega (arith, shape.tall)) (omega (arith, lt, shape.wide))
-
-or_comes : (a b : Bool) → (if b then true else a) ≡ (a || b)
-or_comes a b = search (rules, or-true, or-false)
-
-module _ (d : Dict) (dict : IsDict d) (words : List (List ℕ)) (word : List ℕ) (n : ℕ) (before : Bool) (was : before ≡ is_one_of words (word_of d n)) where
-  -- with a word that has a number
-  pub one_more : (number : ℕ) → number_of d word ≡ Some number → (if n == number then true else before) ≡ is_one_of (words ++ word ∷ []) (word_of d n)
-  one_more number is =
-      or_comes before (n == number)
-      ∙ (ap₂ (λ a b. a || b) was (by (cases_eq n number)) ∙ sym (one_of_both words (word ∷ []) (word_of d n)))
-    where
-      there : word_of d number ≡ Some word
-      there = word_from_number d dict word number is
-
-      by : (n ≡ number) ⊎ (n ≡ number → ⊥) → (n == number) ≡ is_one_of (word ∷ []) (word_of d n)
-      by (inl same) = eq-eqb n number same ∙ sym (of_one (word ∷ []) (word_of d n) word (ap (word_of d) same ∙ there) (inl refl))
-      by (inr differ) = ne_eqb n number differ ∙ sym (false_from_ne_true (is_one_of (word ∷ []) (word_of d n)) (λ h. this (one_of (word ∷ []) (word_of d n) h)))
-        where
-          this : (other : List ℕ) × (word_of d n ≡ Some other) × Among (word ∷ []) other → ⊥
-          this found = elim found.2 [ inl same ↦ differ (one_number d dict n number word (found.1 ∙ ap Some (sym same)) there) | inr none ↦ absurd none ]
-
-  -- and with one that has none
-  pub none_more : number_of d word ≡ None → before ≡ is_one_of (words ++ word ∷ []) (word_of d n)
-  none_more none = search (rules, or-false, false_from_ne_true, one_of, one_of_both, both_ways, number_from_word)
-
--- a row has the bits of the numbers of these words
-pub record ShowsNumbers (d : Dict) (props : ℕ) (words : List (List ℕ)) (row : Rows) : Type 0 where
-  pub shape : HasShape row 1 props
-  pub bits : (n : ℕ) → n < props → get row 0 n ≡ is_one_of words (word_of d n)
-
-pub shows_none : (d : Dict) (props : ℕ) (row new : Rows) → HasShape row 1 props → new ≡ with_row row 0 (λ _. false) → ShowsNumbers d props [] new
-shows_none d props row new shape is = record {
-  shape = same_shape row new 1 props 0 (λ _. false) shape is;
-  bits = λ n lt. value_at row new props n (λ _. false) shape is lt ∙ sym (one_of_none (word_of d n));
-}
-
-module _ (d : Dict) (dict : IsDict d) (props : ℕ) (words : List (List ℕ)) (word : List ℕ) (row : Rows) (shows : ShowsNumbers d props words row) where
-  pub shows_one : (new : Rows) (number : ℕ) → number_of d word ≡ Some number → new ≡ with_row row 0 (λ n. if n == number then true else get row 0 n) → ShowsNumbers d props (words ++ word ∷ []) new
-  shows_one new number there is = record {
-    shape = same_shape row new 1 props 0 (λ n. if n == number then true else get row 0 n) shows.shape is;
-    bits = λ n lt.
-        value_at row new props n (λ k. if k == number then true else get row 0 k) shows.shape is lt
-        ∙ one_more d dict words word n (get row 0 n) (shows.bits n lt) number there;
-  }
-
-  pub shows_same : number_of d word ≡ None → ShowsNumbers d props (words ++ word ∷ []) row
-  shows_same none = record { shape = shows.shape; bits = λ n lt. none_more d dict words word n (get row 0 n) (shows.bits n lt) none }
-
-pub shown_numbers : (d : Dict) (props : ℕ) (words : List (List ℕ)) (row : Rows) → d.props ≡ props → ((n : ℕ) → n < props → get row 0 n ≡ is_one_of words (word_of d n)) → numbers_where props (get row 0) ≡ numbers_named d words
-shown_numbers d props words row same bits = search (rules, numbers_same)

@@ -8,7 +8,7 @@ use Rattle.lis_ext.specs.Numbers.{has_number, numbers_where}
 use Rattle.lis_ext.proofs.Numbers.{numbers_of, numbers_apart}
 use Rattle.lis_ext.proofs.Counted.{each_below}
 
-where_twice : (props : ℕ) (f g : ℕ → Bool) → filter g (numbers_where props f) ≡ numbers_where props (λ n. f n && g n)
+pub where_twice : (props : ℕ) (f g : ℕ → Bool) → filter g (numbers_where props f) ≡ numbers_where props (λ n. f n && g n)
 unfolding numbers_where
 where_twice props f g = filter_twice f g (range_with_len 0 props)
 

@@ -41,7 +41,8 @@ pub(crate) fn learn_word(metadata: &mut Metadata, word: &Word)
 pub(crate) fn learn_words(metadata: &mut Metadata, words: &[Word])
     requires form { IsTrue (list_all (may_learn metadata.old) words.now) }
     requires room { HasWordRoom metadata.old (with_heads words.now) }
-    ensures { LearnsAll (with_heads words.now) metadata.old metadata.new }
+    ensures learns { LearnsAll (with_heads words.now) metadata.old metadata.new }
+    ensures sound { AreSound metadata.old → AreSound metadata.new }
 {
     for word in words {
         learn_word(metadata, word);

@@ -1,6 +1,7 @@
 //! What the description of a file would be: how many words it would have, and how many words would be known with it.
 
 ghost use Rattle.std.specs.Prelude.{◌≡◌, ◌+◌, ◌*◌, ◌<◌, ◌≤◌, not, ◌&&◌, [], ◌∷◌, length, IsSome, IfSome};
+ghost use Rattle.lis_dict.specs.Dict.{word_of};
 ghost use Rattle.lis_catalog.specs.Catalog.{rec_at};
 ghost use Rattle.lis_words.specs.Words.{has_word};
 ghost use Rattle.lis_model.specs.State.{heads};
@@ -106,7 +107,7 @@ fn find_draft(metadata: &Metadata, search: &mut Search, draft: Draft) -> Fresh
 fn is_leaving(metadata: &Metadata, found: &Search, slot: u16, number: u16) -> bool
     requires sound { AreSound metadata.now }
     requires there { IsSome (rec_at metadata.now.catalog slot) }
-    requires number { number < metadata.now.limits.props }
+    requires named { IsSome (word_of metadata.now.dict number) }
     ensures { result ≡ (not (is_found found.now number) && not (is_used (emptied metadata.now slot) number)) }
 {
     !found.has(u32::from(number)) && !metadata.is_used_without(slot, number)

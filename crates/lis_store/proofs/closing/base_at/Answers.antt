@@ -1,11 +1,13 @@
-use Rattle.lis_store.proofs.Common.{◌∙◌, ◌<◌, ◌++◌, length, filter, ap, arith, take_all}
+use Rattle.lis_store.proofs.Common.{◌∙◌, ◌<◌, ◌++◌, length, filter, ap, arith, take_all, named_below}
 use Rattle.lis_store.specs.Closing.{is_base, added}
 use Rattle.lis_store.proofs.Crowded.{named_at}
 use Rattle.lis_store.proofs.Rebuilt.{base_room}
 use Rattle.lis_store.proofs.closing.base_at.Goals as goal
 
 pub is_base-requires-clause-number : goal.is_base-requires-clause-number
-is_base-requires-clause-number c = named_at c.args.metadata.now c.args.numbers.now c.requires.numbers c.loop-number.number-index c.loop-number-test.true
+is_base-requires-clause-number c =
+    let k = c.args.metadata.now in
+    named_below k c.requires.sound _ (named_at k c.args.numbers.now c.requires.numbers c.loop-number.number-index c.loop-number-test.true)
 
 pub push-requires : goal.push-requires
 push-requires c =

@@ -1,7 +1,7 @@
 use Rattle.std.proofs.Common.{take, length-take}
 use Rattle.std.proofs.lemmas.List.{take_all}
 use Rattle.std.proofs.lemmas.List.Sums.{count_by_more_no, count_by_more_yes, count_by-le-length}
-use Rattle.lis_store.proofs.Common.{◌≡◌, ◌+◌, ◌||◌, ◌∙◌, ℕ, List, Bool, not, count_by, ap, sym, length, arith, numbers_where, Ext, few_properties}
+use Rattle.lis_store.proofs.Common.{◌≡◌, ◌||◌, ◌∙◌, ℕ, List, Bool, not, count_by, ap, sym, length, arith, numbers_where, Ext, few_properties}
 use Rattle.lis_ext.specs.Numbers.{has_number}
 use Rattle.lis_ext.specs.Ext.{set_of}
 use Rattle.lis_ext.proofs.Counted.{where_le}

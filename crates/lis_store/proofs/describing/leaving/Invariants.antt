@@ -1,8 +1,7 @@
-use Rattle.lis_store.proofs.Common.{◌≡◌, ◌≤◌, length}
-use Rattle.lis_store.specs.Beside.{is_leaving}
-use Rattle.lis_store.proofs.NumbersFound.{found_below}
+use Rattle.lis_store.proofs.Common.{◌≡◌, not, ◌&&◌, take, count_by, is_used, emptied}
+use Rattle.lis_taxonomy.specs.Search.{is_found}
 use Rattle.lis_store.proofs.describing.leaving.Given as goal
 
--- the numbers so far that go out of use
+-- of the numbers so far, those that go out of use
 abbrev pub invariant-loop-number : goal.invariant-loop-number
-invariant-loop-number l = (l.count ≡ length (found_below (is_leaving l.metadata l.row l.slot) l.number)) × (l.count ≤ l.number)
+invariant-loop-number l = l.count ≡ count_by (λ n. not (is_found l.found n) && not (is_used (emptied l.metadata l.slot) n)) (take l.number-index l.number-items)

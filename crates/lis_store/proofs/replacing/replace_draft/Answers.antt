@@ -1,4 +1,4 @@
-use Rattle.lis_store.proofs.Common.{◌∙◌, nat_lt, sym, ap, subst, list_all, are_blocks, Limits, HasRoom}
+use Rattle.lis_store.proofs.Common.{◌∙◌, nat_lt, sym, ap, subst, list_all, are_blocks, Limits}
 use Rattle.lis_store.specs.Drafts.{drafted}
 use Rattle.lis_store.specs.Admitting.{IsAdmitted}
 use Rattle.lis_store.specs.ReplacingIn.{MayPut, record_in}
@@ -29,24 +29,16 @@ settle_in-requires-clause-below c =
     let limits = limits_room (record_in c.args.metadata.now c.args.slot) c.make_room-new_slot.result.slot c.args.metadata.now c.make_room-new_slot.new.metadata c.make_room-new_slot.ensures.room in
     ap (λ (l : Limits). list_all (λ n. nat_lt n l.blocks) c.args.blocks.items) limits ∙ c.requires.below
 
-pub settle_in-requires-clause-scratch : goal.settle_in-requires-clause-scratch
-settle_in-requires-clause-scratch c =
-    let limits = limits_room (record_in c.args.metadata.now c.args.slot) c.make_room-new_slot.result.slot c.args.metadata.now c.make_room-new_slot.new.metadata c.make_room-new_slot.ensures.room in
-    subst (λ (l : Limits). HasRoom c.args.scratch.now l) (sym limits) c.requires.scratch
-
-pub returns-clause-scratch : goal.returns-clause-scratch
-returns-clause-scratch c =
-    let limits = limits_room (record_in c.args.metadata.now c.args.slot) c.make_room-new_slot.result.slot c.args.metadata.now c.make_room-new_slot.new.metadata c.make_room-new_slot.ensures.room in
-    subst (λ (l : Limits). HasRoom c.settle_in.new.scratch l) limits c.settle_in.ensures.scratch
-
-pub returns-clause-refiles : goal.returns-clause-refiles
-returns-clause-refiles c = record {
-  slot = c.make_room-new_slot.result.slot;
-  old = c.make_room-new_slot.result.numbers.items;
-  vacated = c.make_room-new_slot.new.metadata;
-  makes = c.make_room-new_slot.ensures.room;
-  vacant = c.make_room-new_slot.ensures.vacant;
-  may = may_comes c.args.slot c.args.metadata.now c.make_room-new_slot.new.metadata c.make_room-new_slot.result.slot (drafted c.args.draft.name.now c.args.draft.size c.args.draft.assigned.now c.args.draft.own.now)
-      c.requires.form c.make_room-new_slot.ensures.asked c.requires.may c.make_room-new_slot.ensures.room;
-  settles = c.settle_in.ensures.settles;
+pub returns : goal.returns
+returns c = record {
+  refiles = record {
+    slot = c.make_room-new_slot.result.slot;
+    old = c.make_room-new_slot.result.numbers.items;
+    vacated = c.make_room-new_slot.new.metadata;
+    makes = c.make_room-new_slot.ensures.room;
+    vacant = c.make_room-new_slot.ensures.vacant;
+    may = may_comes c.args.slot c.args.metadata.now c.make_room-new_slot.new.metadata c.make_room-new_slot.result.slot (drafted c.args.draft.name.now c.args.draft.size c.args.draft.assigned.now c.args.draft.own.now)
+        c.requires.form c.make_room-new_slot.ensures.asked c.requires.may c.make_room-new_slot.ensures.room;
+    settles = c.settle_in.ensures.settles;
+  };
 }

@@ -9,9 +9,12 @@ replace_draft-requires-clause-may c =
     subst (λ given. M given c.as_slice-2.result.now) (sym c.as_slice.ensures.value)
     (subst (M c.args.words.now.assigned.items) (sym (c.as_slice-2.ensures.words ∙ c.requires.derived)) c.requires.may)
 
-pub returns-clause-refiles : goal.returns-clause-refiles
-returns-clause-refiles c =
+pub returns : goal.returns
+returns c =
     let R : List (List ℕ) → List (List ℕ) → Type 0 = λ given own.
     RefilesIn (record_in c.args.metadata.now c.args.slot) (drafted c.args.name.now (length c.args.payload.now) given own) c.args.blocks.items c.args.metadata.now c.replace_draft.new.metadata in
-    subst (R c.args.words.now.assigned.items) (c.as_slice-2.ensures.words ∙ c.requires.derived)
-    (subst (λ given. R given c.as_slice-2.result.now) c.as_slice.ensures.value c.replace_draft.ensures.refiles)
+    record {
+      refiles =
+          subst (R c.args.words.now.assigned.items) (c.as_slice-2.ensures.words ∙ c.requires.derived)
+          (subst (λ given. R given c.as_slice-2.result.now) c.as_slice.ensures.value c.replace_draft.ensures.refiles);
+    }

@@ -58,8 +58,8 @@ place_record-requires-clause-sound c =
 pub overflow_cast-draft : goal.overflow_cast-draft
 overflow_cast-draft c = omega (arith, size_fits c.args.metadata.now.limits.version c.args.draft.size c.requires.may.small)
 
-pub returns-clause-settles : goal.returns-clause-settles
-returns-clause-settles c =
+pub returns : goal.returns
+returns c =
     let own = c.learn_own-numbers.ensures.learnt in
     let draft = drafted c.args.draft.name.now c.args.draft.size c.args.draft.assigned.now c.args.draft.own.now in
     let L : List ℕ → List ℕ → Type 0 = λ tags numbers. LearnsOwn draft tags numbers c.args.metadata.now c.learn_own-numbers.new.metadata in
@@ -67,10 +67,12 @@ returns-clause-settles c =
     let F : List ℕ → List ℕ → Type 0 = λ name tags.
     Files c.args.new_slot.now.slot (record { name = name; size = c.args.draft.size; tags = tags; blocks = c.args.blocks.items }) c.describe.new.self c.place_record.new.self in
     record {
-      learnt = c.learn_own-numbers.new.metadata;
-      own = subst (λ tags. L tags (numbers_named c.learn_own-numbers.new.metadata.dict (described_by c.args.metadata.now draft))) own.tagged (subst (L c.learn_own-numbers.result.tags.items) own.numbered own);
-      described = c.describe.new.self;
-      describes = subst D (c.as_slice.ensures.value ∙ own.numbered) c.describe.ensures.describes;
-      files = subst (F c.args.draft.name.now) own.tagged (subst (λ name. F name c.learn_own-numbers.result.tags.items) c.copied.ensures c.place_record.ensures.files);
-      sound = c.place_record.ensures.sound;
+      settles = record {
+        learnt = c.learn_own-numbers.new.metadata;
+        own = subst (λ tags. L tags (numbers_named c.learn_own-numbers.new.metadata.dict (described_by c.args.metadata.now draft))) own.tagged (subst (L c.learn_own-numbers.result.tags.items) own.numbered own);
+        described = c.describe.new.self;
+        describes = subst D (c.as_slice.ensures.value ∙ own.numbered) c.describe.ensures.describes;
+        files = subst (F c.args.draft.name.now) own.tagged (subst (λ name. F name c.learn_own-numbers.result.tags.items) c.copied.ensures c.place_record.ensures.files);
+        sound = c.place_record.ensures.sound;
+      };
     }

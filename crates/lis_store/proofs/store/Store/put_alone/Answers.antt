@@ -1,4 +1,4 @@
-use Rattle.lis_store.proofs.Common.{rules, ◌≡◌, ◌∙◌, ℕ, ◌≤◌, true, length, Err, sym, ap, subst, arith, err_from_is_err_and, ArrayVec, is_large, Limits, blocks_taken, new_file, file_added, changed, HasRoom}
+use Rattle.lis_store.proofs.Common.{rules, ◌≡◌, ◌∙◌, ℕ, ◌≤◌, true, length, Err, sym, ap, subst, arith, err_from_is_err_and, ArrayVec, is_large, blocks_taken, new_file, file_added, changed}
 use Rattle.lis_store.specs.Memory.{stored}
 use Rattle.lis_store.specs.Stored.{Stored, StoreHolds}
 use Rattle.lis_store.specs.Drafts.{draft_of}
@@ -6,7 +6,7 @@ use Rattle.lis_store.specs.Instead.{free_for}
 use Rattle.lis_store.specs.ReplacingIn.{record_in, file_gone}
 use Rattle.lis_store.proofs.Keeping.{keeps_saved}
 use Rattle.lis_store.proofs.Large.{none_left}
-use Rattle.lis_store.proofs.ReplaceFile.{anew_there, anew_small, mid_form, mid_first, mid_in_form, mid_below, mid_limits, mid_short, mid_image, written_saves, written_same, written_edits, written_holds}
+use Rattle.lis_store.proofs.ReplaceFile.{anew_there, anew_small, mid_form, mid_first, mid_in_form, mid_below, mid_short, mid_image, written_saves, written_same, written_edits, written_holds}
 use Rattle.lis_store.proofs.Torn.{lost_sound, lost_holds, lost_keeps}
 use Rattle.lis_store.proofs.store.Store.put_alone.Goals as goal
 use Rattle.lis_kept.proofs.Image.{same_blocks}
@@ -42,7 +42,6 @@ replace_record-requires g c = record {
   may = mid_first c.self.view_is c.args.slot c.args.name.now c.args.words.now.assigned.items c.args.payload.now c.in_ok-blocks.blocks.items c.self.invariant c.in_ok-blocks.ensures.ends.sound c.requires.may.0 c.in_ok-blocks.ensures.renewed;
   in_form = mid_in_form c.self.view_is c.args.slot c.args.name.now c.args.words.now.assigned.items c.args.payload.now c.in_ok-blocks.blocks.items c.self.invariant c.in_ok-blocks.ensures.ends.sound c.requires.may.0 c.in_ok-blocks.ensures.renewed;
   below = mid_below c.self.view_is c.args.slot c.args.name.now c.args.words.now.assigned.items c.args.payload.now c.in_ok-blocks.blocks.items c.self.invariant c.in_ok-blocks.ensures.ends.sound c.requires.may.0 c.in_ok-blocks.ensures.renewed;
-  scratch = subst (λ (l : Limits). HasRoom c.args.scratch.now l) (sym (mid_limits c.self.view_is c.args.slot c.args.name.now c.args.words.now.assigned.items c.args.payload.now c.in_ok-blocks.blocks.items c.self.invariant c.in_ok-blocks.ensures.ends.sound c.requires.may.0 c.in_ok-blocks.ensures.renewed)) c.requires.scratch;
 }
 
 pub most_held-requires : goal.most_held-requires
@@ -59,10 +58,6 @@ hold-requires g c = record {
   unplaced = λ some. c.in_ok-blocks.ensures.renewed.unplaced (c.most_held.ensures.large some);
   few = search rules;
 }
-
-pub returns-clause-scratch : goal.returns-clause-scratch
-returns-clause-scratch g c =
-    subst (λ (l : Limits). HasRoom c.replace_record.new.scratch l) (mid_limits c.self.view_is c.args.slot c.args.name.now c.args.words.now.assigned.items c.args.payload.now c.in_ok-blocks.blocks.items c.self.invariant c.in_ok-blocks.ensures.ends.sound c.requires.may.0 c.in_ok-blocks.ensures.renewed) c.replace_record.ensures.scratch
 
 pub returns-clause-holds : goal.returns-clause-holds
 returns-clause-holds g c = λ base now holds.

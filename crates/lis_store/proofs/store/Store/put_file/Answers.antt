@@ -5,7 +5,7 @@ use Rattle.lis_store.specs.Changes.{Holds, Commits}
 use Rattle.lis_store.specs.Drafts.{draft_of}
 use Rattle.lis_store.specs.ReplacingIn.{MayPutBytes, record_in, file_gone}
 use Rattle.lis_store.proofs.Holding.{fits_held}
-use Rattle.lis_store.proofs.Keeping.{keeps_behind}
+use Rattle.lis_store.proofs.Keeping.{keeps_behind, left_unrefused}
 use Rattle.lis_store.proofs.Large.{held_behind_commit, held_lost_commit}
 use Rattle.lis_store.proofs.ReplaceFile.{anew_small}
 use Rattle.lis_store.proofs.store.Store.put_file.Goals.{then-is_large+in_ok-commit, else-is_large}
@@ -29,7 +29,9 @@ returns-in_err-commit g c =
     let file = new_file c.args.name.now c.args.words.now.assigned.items c.args.payload.now in
     held_lost_commit base now (changed now (file_added (file_gone now.state (record_in c.args.self.now.metadata c.args.slot)) file)) m m (g.D.Disk.meaning c.commit.new.disk)
     c.commit.new.self c.in_err-commit.field-0.0 c.from_residual.result (c.in_err-commit.ensures.commits base now.state holds) (p.1 ∙ ap Err p.2) in
-    search (rules, holds)
+    let e = err_from_is_err_and c.from_residual.result c.from_residual.ensures.1 in
+    let ended = left_unrefused c.commit.new.self c.in_err-commit.field-0.0 c.from_residual.result c.in_err-commit.ensures.left (e.1 ∙ ap Err e.2) in
+    search (rules, holds, ended)
 
 pub put_alone-requires-clause-may : goal.put_alone-requires-clause-may
 put_alone-requires-clause-may g c =

@@ -1,11 +1,11 @@
 use Rattle.lis_store.proofs.Common.{◌≡◌, ◌-◌, ◌≤◌}
 use Rattle.lis_taxonomy.specs.Search.{is_found}
 use Rattle.lis_store.proofs.NumbersFound.{found_below}
-use Rattle.lis_store.proofs.closing.all_entailed.Given as goal
+use Rattle.lis_store.proofs.finding.numbers_found.Given as goal
 
--- those so far that are entailed
+-- those so far that are found
 abbrev pub invariant-loop-number : goal.invariant-loop-number
-invariant-loop-number l = (l.all.items ≡ found_below (is_found l.search) l.start) × (l.start ≤ l.fn.metadata.limits.props)
+invariant-loop-number g l = (l.numbers.items ≡ found_below (is_found l.search) l.start) × (l.start ≤ 8192)
 
 abbrev pub decreases-loop-number : goal.decreases-loop-number
-decreases-loop-number l = l.fn.metadata.limits.props - l.start
+decreases-loop-number g l = 8192 - l.start

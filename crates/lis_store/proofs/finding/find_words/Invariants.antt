@@ -1,0 +1,7 @@
+use Rattle.lis_store.proofs.Common.{take}
+use Rattle.lis_store.specs.Finding.{FindsWords}
+use Rattle.lis_store.proofs.finding.find_words.Given as goal
+
+-- the numbers of the words so far are found
+abbrev pub invariant-loop-word : goal.invariant-loop-word
+invariant-loop-word l = FindsWords l.metadata (take l.word-index l.words) l.initial.search l.search
