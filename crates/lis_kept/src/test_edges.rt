@@ -120,7 +120,7 @@ fn nearest(dict: &Dict, declared: &Flags, test: Test, side: Side) -> Option<u32>
     number_of(nearest)
 }
 
-// The number of the nearest declared test on that side of a number's, where this has one.
+// The number of the nearest declared test on that side of a number's test, if the number has one.
 fn neighbour(dict: &Dict, declared: &Flags, number: u32, side: Side) -> Option<u32>
     requires few { dict.now.props ≤ MAX_PROPS }
     requires number { number < dict.now.props }
