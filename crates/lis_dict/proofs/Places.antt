@@ -1,13 +1,14 @@
--- The index of a word among entries in the order of their words.
-use Rattle.std.proofs.Common.{◌≡◌, ◌⊎◌, ℕ, zero, suc, ◌+◌, ◌<◌, ◌≤◌, Bool, true, false, not, cond, Result, Ok, Err, IfOk, IfErr, List, [], ◌∷◌, length, get_or, filter, refl, sym, ap, subst, ◌∙◌, inl, inr, arith}
+-- The place of a word among entries in the order of their words.
+use Rattle.std.proofs.Common.{◌≡◌, ◌⊎◌, ℕ, zero, suc, ◌+◌, ◌<◌, ◌≤◌, Bool, true, false, not, cond, Result, Ok, Err, IfOk, IfErr, List, [], ◌∷◌, length, get_or, map, filter, refl, sym, ap, subst, ◌∙◌, inl, inr, arith}
 use Rattle.std.specs.declared.cmp.Ordering.{Ordering}
 use Rattle.std.specs.declared.cmp.Ordering.TheVariants.{Less, Equal, Greater}
 use Rattle.std.specs.Ordering.{match_ordering, ordering_index}
 use Rattle.std.specs.Cmp.{tied_itself}
 use Rattle.std.specs.BTreeSet.{insert_key}
 use Rattle.std.specs.List.{insert, remove, HoldsAt}
-use Rattle.std.specs.List.Sorted.{IsBinarySearchResult, IsNonDecreasingBy, IsPartitionPoint}
+use Rattle.std.specs.List.Sorted.{IsBinarySearchResult, IsNonDecreasingBy, IsPartitionPoint, IsSearchInRange}
 use Rattle.std.proofs.lemmas.Bool.{cases_lt}
+use Rattle.std.proofs.lemmas.List.{get_or-map, length-map}
 use Rattle.std.proofs.lemmas.Slice.Eq.{bytes_eq-Decides}
 use Rattle.std.proofs.lemmas.Map.Lookups.{exact_bytes}
 use Rattle.lis_graph.proofs.Members.{Among, contains_from_among}
@@ -62,6 +63,26 @@ module _ (es : List DictEntry) (ordered : Ordered es) (word : List ℕ) where
   pub searched_absent : (r : Result ℕ ℕ) → IsBinarySearchResult (λ (e : DictEntry). word_cmp e.0 word) es r → IfErr r (IsPartitionPoint (λ e. word_cmp e.0 word ≡ Less) (λ e. word_cmp e.0 word ≡ Greater) es)
   searched_absent (Ok k) at = tt
   searched_absent (Err k) at = at (comparisons_rise es ordered word)
+
+-- ---- a search among numbers, of which each has its entry
+module _ (entry : ℕ → DictEntry) (order : List ℕ) where
+  rises : (n : DictEntry → ℕ) → IsNonDecreasingBy n (map entry order) → IsNonDecreasingBy (λ k. n (entry k)) order
+  rises n up i j d le lt =
+      let first = ap n (get_or-map entry order i d (entry d) (omega (arith, le, lt))) in
+      let second = ap n (get_or-map entry order j d (entry d) lt) in
+      omega (arith, first, second, up i j (entry d) le (omega (arith, lt, length-map order entry)))
+
+  pub searched : (word : List ℕ) (r : Result ℕ ℕ) → IsSearchInRange r (length order) → IsBinarySearchResult (λ n. word_cmp (entry n).0 word) order r
+      → IsBinarySearchResult (λ (e : DictEntry). word_cmp e.0 word) (map entry order) r
+  searched word (Ok k) lt at = λ d. subst (λ (e : DictEntry). word_cmp e.0 word ≡ Equal) (sym (get_or-map entry order k 0 d lt)) (at 0)
+  searched word (Err k) le at = λ up.
+      let parts = at (rises (λ (e : DictEntry). ordering_index (word_cmp e.0 word)) up) in
+      let before : (j : ℕ) (d : DictEntry) → 0 ≤ j → j < k → word_cmp (get_or (map entry order) j d).0 word ≡ Less = λ j d from lt.
+      subst (λ (e : DictEntry). word_cmp e.0 word ≡ Less) (sym (get_or-map entry order j 0 d (omega (arith, le, lt)))) (parts.0 j 0 from lt) in
+      let behind : (j : ℕ) (d : DictEntry) → k ≤ j → j < length (map entry order) → word_cmp (get_or (map entry order) j d).0 word ≡ Greater = λ j d from lt.
+      let less : j < length order = omega (arith, lt, length-map order entry) in
+      subst (λ (e : DictEntry). word_cmp e.0 word ≡ Greater) (sym (get_or-map entry order j 0 d less)) (parts.1 j 0 from less) in
+      (before, behind)
 
 -- ---- the entry of the word
 pub filter_all : {K : Type 0} (keep : K → Bool) (xs : List K) → ((x : K) → Among xs x → keep x ≡ true) → filter keep xs ≡ xs

@@ -2,10 +2,11 @@ ghost use Rattle.std.specs.Prelude.{◌≡◌, ℕ, ◌<◌, ◌≤◌, List, []
 ghost use Rattle.std.specs.List.{HoldsAt};
 ghost use Rattle.std.specs.List.Sorted.{IsSearchInRange, IsPartitionPoint};
 ghost use Rattle.std.specs.declared.cmp.Ordering.TheVariants.{Less, Greater};
+ghost use Rattle.lis_limits.specs.declared.TheConstants.{MAX_PROPS};
 ghost use Rattle.lis_words.specs.Words.{is_property, word_cmp, test_of};
 ghost use Rattle.lis_model.specs.Ranges.{is_props_limit};
 ghost use Rattle.lis_dict.specs.Dict.{number_of, word_of, with_entry, without_word, IsDict, Adds};
-ghost use Rattle.lis_dict.specs.Inside.{dict_of};
+ghost use Rattle.lis_dict.specs.Inside.{word_in};
 
 use lis_words::Word;
 use std::alloc::{AllocError, Global};
@@ -15,28 +16,13 @@ use std::marker::Model;
 #[derive(Clone, Copy, Debug, PartialEq, Eq)]
 pub struct NoPropertyRoom;
 
-// A word and its number.
-#[derive(Drop)]
-struct Entry {
-    word: Word,
-    number: u16,
-}
-
-impl Model for Entry {
-    ghost use Rattle.std.specs.Prelude.{ℕ, List};
-
-    ghost Value = { List ℕ × ℕ };
-
-    ghost view = { λ e. (e.word, e.number) };
-}
-
-/// Words and their numbers. All memory is allocated by `new`.
+/// Words and their numbers. All memory is taken by `new`.
 #[derive(Drop)]
 pub struct Dict {
     props: u32,
-    // In the order of the words.
-    entries: Vec<Entry>,
-    // At each number below `props`, the word that has it.
+    // The numbers that have a word, in the order of their words.
+    order: Vec<u16>,
+    // The word that has it, at each number below `props`.
     holders: Vec<Option<Word>>,
 }
 
@@ -48,43 +34,19 @@ impl Model for Dict {
 
     ghost use Rattle.lis_dict.specs.Inside.{dict_of, IsSoundDict};
 
-    ghost view = { λ d. dict_of d.entries.items d.props };
+    ghost view = { λ d. dict_of d.props d.holders.items d.order.items };
 
-    ghost invariant = { λ d. IsSoundDict d.entries.items d.holders.items d.props (vec_capacity d.entries) };
+    ghost invariant = { λ d. IsSoundDict d.props d.holders.items d.order.items (vec_capacity d.order) };
 }
 
-// The index of the word, or otherwise the index that it would have.
-fn search(entries: &[Entry], word: &Word) -> Result<usize, usize>
-    requires { (props : ℕ) × IsDict (dict_of entries.now props) }
-    ensures bound { IsSearchInRange result (length entries.now) }
-    ensures found { IfOk result (HoldsAt (λ e. e.0 ≡ word.now) entries.now) }
-    ensures absent { IfErr result (IsPartitionPoint (λ e. word_cmp e.0 word.now ≡ Less) (λ e. word_cmp e.0 word.now ≡ Greater) entries.now) }
-    ensures word { IsTrue (is_property word.now) }
+// The bytes of the word that has the number, or no bytes.
+fn bytes_at(holders: &[Option<Word>], number: u16) -> &[u8]
+    ensures { result.now ≡ word_in holders.now number }
 {
-    search_bytes(entries, word.bytes())
-}
-
-// The same for any bytes.
-fn search_bytes(entries: &[Entry], bytes: &[u8]) -> Result<usize, usize>
-    requires { (props : ℕ) × IsDict (dict_of entries.now props) }
-    ensures bound { IsSearchInRange result (length entries.now) }
-    ensures found { IfOk result (HoldsAt (λ e. e.0 ≡ bytes.now) entries.now) }
-    ensures absent { IfErr result (IsPartitionPoint (λ e. word_cmp e.0 bytes.now ≡ Less) (λ e. word_cmp e.0 bytes.now ≡ Greater) entries.now) }
-{
-    entries.binary_search_by(|entry| entry.word.bytes().cmp(bytes))
-}
-
-// How many words come before these bytes, which are no word.
-fn place_from(entries: &[Entry], bytes: &[u8]) -> usize
-    requires dict { (props : ℕ) × IsDict (dict_of entries.now props) }
-    requires none { is_property bytes.now ≡ false }
-    ensures bound { result ≤ length entries.now }
-    ensures place { IsPartitionPoint (λ e. word_cmp e.0 bytes.now ≡ Less) (λ e. word_cmp e.0 bytes.now ≡ Greater) entries.now result }
-{
-    let Err(place) = search_bytes(entries, bytes) else {
-        unreachable!()
-    };
-    place
+    match holders.get(usize::from(number)) {
+        Some(Some(word)) => word.bytes(),
+        _ => b"".as_slice(),
+    }
 }
 
 // The first number that no word has.
@@ -102,7 +64,7 @@ impl Dict {
     {
         Ok(Dict {
             props,
-            entries: Vec::with_capacity(alloc, props as usize)?,
+            order: Vec::with_capacity(alloc, props as usize)?,
             holders: vec![in alloc; None; props as usize]?,
         })
     }
@@ -112,15 +74,15 @@ impl Dict {
         ensures value { result ≡ length self.now.entries }
         ensures kept { IsDict self.now }
     {
-        self.entries.len() as u32
+        self.order.len() as u32
     }
 
     /// The word's number.
     pub fn id_of(&self, word: &Word) -> Option<u16>
         ensures { result ≡ number_of self.now word.now }
     {
-        match search(&self.entries, word) {
-            Ok(place) => Some(self.entries[place].number),
+        match self.search(word) {
+            Ok(place) => Some(self.order[place]),
             Err(_) => None,
         }
     }
@@ -137,8 +99,8 @@ impl Dict {
     pub fn word_at(&self, k: u32) -> Option<(Word, u16)>
         ensures { result ≡ slice_get self.now.entries k }
     {
-        let entry = self.entries.get(k as usize)?;
-        Some((entry.word.copied(), entry.number))
+        let number = *self.order.get(k as usize)?;
+        Some((self.word_of(number)?, number))
     }
 
     /// The indexes in byte order between which all tests are: from the first one on, and before the second one.
@@ -149,10 +111,10 @@ impl Dict {
         ensures before { (k : ℕ) (e : List ℕ × ℕ) → k < result.0 → slice_get self.now.entries k ≡ Some e → test_of e.0 ≡ None }
         ensures behind { (k : ℕ) (e : List ℕ × ℕ) → result.1 ≤ k → slice_get self.now.entries k ≡ Some e → test_of e.0 ≡ None }
     {
-        let start = place_from(&self.entries, b"size<".as_slice());
-        // The other sign is `size>=`, and `?` comes after `>`.
-        let end = place_from(&self.entries, b"size?".as_slice());
-        (start as u32, end.max(start) as u32)
+        let start = self.place_from(b"size<".as_slice());
+        // The other sign is `size>=`, and `?` comes behind `>`.
+        let end = self.place_from(b"size?".as_slice());
+        (start, end.max(start))
     }
 
     /// The word's number. A new word is first added with a free number.
@@ -174,12 +136,12 @@ impl Dict {
         ensures number { result ≡ number_of self.old word.now }
         ensures gone { self.new ≡ without_word self.old word.now }
     {
-        let Ok(place) = search(&self.entries, word) else {
+        let Ok(place) = self.search(word) else {
             return None;
         };
-        let removed = self.entries.remove(place);
-        self.holders[usize::from(removed.number)] = None;
-        Some(removed.number)
+        let number = self.order.remove(place);
+        self.holders[usize::from(number)] = None;
+        Some(number)
     }
 
     /// Adds a new word with this free number.
@@ -189,17 +151,48 @@ impl Dict {
         requires new { number_of self.old word.now ≡ None }
         ensures { self.new ≡ with_entry self.old word.now number }
     {
-        let Err(place) = search(&self.entries, word) else {
+        let Err(place) = self.search(word) else {
             unreachable!()
         };
-        let entry = Entry {
-            word: word.copied(),
-            number,
-        };
-        let Ok(()) = self.entries.insert(place, entry) else {
+        let Ok(()) = self.order.insert(place, number) else {
             unreachable!()
         };
         self.holders[usize::from(number)] = Some(word.copied());
+    }
+
+    // The place of the word, or else the place that it would have.
+    fn search(&self, word: &Word) -> Result<usize, usize>
+        ensures bound { IsSearchInRange result (length self.now.entries) }
+        ensures found { IfOk result (HoldsAt (λ e. e.0 ≡ word.now) self.now.entries) }
+        ensures absent { IfErr result (IsPartitionPoint (λ e. word_cmp e.0 word.now ≡ Less) (λ e. word_cmp e.0 word.now ≡ Greater) self.now.entries) }
+        ensures word { IsTrue (is_property word.now) }
+    {
+        self.search_bytes(word.bytes())
+    }
+
+    // The same for any bytes.
+    fn search_bytes(&self, bytes: &[u8]) -> Result<usize, usize>
+        ensures bound { IsSearchInRange result (length self.now.entries) }
+        ensures found { IfOk result (HoldsAt (λ e. e.0 ≡ bytes.now) self.now.entries) }
+        ensures absent { IfErr result (IsPartitionPoint (λ e. word_cmp e.0 bytes.now ≡ Less) (λ e. word_cmp e.0 bytes.now ≡ Greater) self.now.entries) }
+        ensures kept { IsDict self.now }
+        ensures few { length self.now.entries ≤ MAX_PROPS }
+    {
+        let holders = self.holders.as_slice();
+        self.order
+            .binary_search_by(|number| bytes_at(holders, *number).cmp(bytes))
+    }
+
+    // How many words come before these bytes, which are no word.
+    fn place_from(&self, bytes: &[u8]) -> u32
+        requires { is_property bytes.now ≡ false }
+        ensures bound { result ≤ length self.now.entries }
+        ensures place { IsPartitionPoint (λ e. word_cmp e.0 bytes.now ≡ Less) (λ e. word_cmp e.0 bytes.now ≡ Greater) self.now.entries result }
+    {
+        let Err(place) = self.search_bytes(bytes) else {
+            unreachable!()
+        };
+        place as u32
     }
 
     // The lowest number that no word has.
