@@ -36,6 +36,12 @@ module _ (holders : Holders) (number : ℕ) (now : Option (List ℕ)) where
     count_after : count_by is_some (set holders number now) + cond (is_some (get_or holders number None)) 1 0 ≡ count_by is_some holders + cond (is_some now) 1 0
     count_after = sum_by-set (λ (h : Option (List ℕ)). cond (is_some h) 1 0) holders number now None lt
 
+-- a number without a word leaves room for one
+pub some_room : (holders : Holders) (number : ℕ) → number < length holders → get_or holders number None ≡ None → count_by is_some holders < length holders
+some_room holders number lt free =
+    let nothing = ap {B = ℕ} (λ (h : Option (List ℕ)). cond (is_some h) 1 0) free in
+    omega (arith, count_after holders number (Some []) lt, nothing, count_by-le-length is_some (set holders number (Some [])), length-set holders number (Some []))
+
 -- ---- the order, with one number more and with one less
 module _ (v : ℕ → DictEntry) (order : List ℕ) (k : ℕ) where
   map_insert : (n : ℕ) → map v (insert order k n) ≡ insert (map v order) k (v n)
@@ -90,7 +96,7 @@ module _ (props room : ℕ) (holders : Holders) (order : List ℕ) (sound : IsSo
         omega (arith, count_after holders number (Some word) lt, nothing, sound.counted)
 
     pub room_left : length order < props
-    room_left = omega (arith, counted_more, count_by-le-length is_some (set holders number (Some word)), length-set holders number (Some word), sound.table)
+    room_left = omega (arith, some_room holders number lt (sound.told number ∙ free), sound.counted, sound.table)
 
     pub put_sound : IsTrue (is_property word) → (more : ℕ) → props ≤ more → IsSoundDict props (set holders number (Some word)) (insert order k number) more
     put_sound form more wide = record {

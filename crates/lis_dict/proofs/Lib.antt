@@ -4,3 +4,6 @@ pub mod Places
 mod Holders
 mod Signs
 pub mod Laws
+mod Repeats
+mod Passes
+mod Sorting

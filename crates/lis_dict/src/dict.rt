@@ -1,4 +1,4 @@
-ghost use Rattle.std.specs.Prelude.{◌≡◌, ℕ, ◌<◌, ◌≤◌, List, [], Some, None, length, slice_get, IsTrue, IfOk, IfErr, IfSome, IfNone, false, is_none, position};
+ghost use Rattle.std.specs.Prelude.{◌≡◌, ℕ, ◌<◌, ◌≤◌, List, [], Some, None, length, slice_get, slice_index_or, vec_capacity, IsTrue, IfOk, IfErr, IfSome, IfNone, false, is_some, is_none, position};
 ghost use Rattle.std.specs.List.{HoldsAt};
 ghost use Rattle.std.specs.List.Sorted.{IsSearchInRange, IsPartitionPoint};
 ghost use Rattle.std.specs.declared.cmp.Ordering.TheVariants.{Less, Greater};
@@ -6,7 +6,7 @@ ghost use Rattle.lis_limits.specs.declared.TheConstants.{MAX_PROPS};
 ghost use Rattle.lis_words.specs.Words.{is_property, word_cmp, test_of};
 ghost use Rattle.lis_model.specs.Ranges.{is_props_limit};
 ghost use Rattle.lis_dict.specs.Dict.{number_of, word_of, with_entry, without_word, IsDict, Adds};
-ghost use Rattle.lis_dict.specs.Inside.{word_in};
+ghost use Rattle.lis_dict.specs.Inside.{word_in, dict_of, IsSoundDict};
 
 use lis_words::Word;
 use std::alloc::{AllocError, Global};
@@ -40,8 +40,9 @@ impl Model for Dict {
 }
 
 // The bytes of the word that has the number, or no bytes.
-fn bytes_at(holders: &[Option<Word>], number: u16) -> &[u8]
-    ensures { result.now ≡ word_in holders.now number }
+pub(crate) fn bytes_at(holders: &[Option<Word>], number: u16) -> &[u8]
+    ensures bytes { result.now ≡ word_in holders.now number }
+    ensures word { IsTrue (is_some (slice_index_or holders.now number None)) → IsTrue (is_property result.now) }
 {
     match holders.get(usize::from(number)) {
         Some(Some(word)) => word.bytes(),
@@ -57,7 +58,19 @@ fn first_free(holders: &[Option<Word>]) -> Option<usize>
 }
 
 impl Dict {
-    /// A dictionary without words, with room for `props` of them.
+    // The dictionary of these words by number, whose numbers stand in the order of their words.
+    pub(crate) fn of_parts(holders: Vec<Option<Word>>, order: Vec<u16>) -> Dict
+        requires { IsSoundDict (length holders.items) holders.items order.items (vec_capacity order) }
+        ensures { result ≡ dict_of (length holders.items) holders.items order.items }
+    {
+        Dict {
+            props: holders.len() as u32,
+            order,
+            holders,
+        }
+    }
+
+    /// No words yet, with room for so many.
     pub fn new(alloc: Global, props: u32) -> Result<Dict, AllocError>
         requires { IsTrue (is_props_limit props) }
         ensures { IfOk result (λ d. d ≡ record { props = props; entries = [] }) }

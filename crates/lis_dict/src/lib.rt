@@ -2,5 +2,7 @@
 #![tactic(auto)]
 
 mod dict;
+mod unsorted;
 
 pub use dict::{Dict, NoPropertyRoom};
+pub use unsorted::Unsorted;
