@@ -199,6 +199,7 @@ impl Dict {
     // How many words come before these bytes, which are no word.
     fn place_from(&self, bytes: &[u8]) -> u32
         requires { is_property bytes.now ≡ false }
+        ensures kept { IsDict self.now }
         ensures bound { result ≤ length self.now.entries }
         ensures place { IsPartitionPoint (λ e. word_cmp e.0 bytes.now ≡ Less) (λ e. word_cmp e.0 bytes.now ≡ Greater) self.now.entries result }
     {
