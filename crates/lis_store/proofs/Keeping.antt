@@ -19,7 +19,7 @@ left_committed old new (Err (Refused refusal)) never = absurd (let e : false ≡
 left_committed old new (Err Disk) broken = broken
 
 -- a commit that failed met a fault of the disk
-pub left_unrefused : {T U : Type 0} (new : Stored) (fault : ChangeFault) (result : Result T ChangeFault) → CommitLeft {T = U} new (Err fault) → result ≡ Err fault → EndsUnrefused new.is_broken result
+pub left_unrefused : {T : Type 0} (new : Stored) (fault : ChangeFault) (result : Result T ChangeFault) → CommitLeft {T = T} new (Err fault) → result ≡ Err fault → EndsUnrefused new.is_broken result
 left_unrefused new (Refused refusal) result never is = absurd (let e : false ≡ true = never in cc)
 left_unrefused new Disk result broken is = subst (λ r. EndsUnrefused new.is_broken r) (sym is) broken
 
