@@ -40,7 +40,7 @@ no_files limits = record {
 }
 
 -- ---- descriptions
--- The numbers of what a file has that has these by itself: all that they entail.
+-- The numbers of a file's description, if it has these own numbers: all that they entail.
 abbrev pub described : Taxonomy → List ℕ → List ℕ
 described t own = numbers_where t.props (any_entails t own)
 

@@ -20,7 +20,7 @@ use Rattle.lis_kept.specs.Metadata.{Metadata}
 use Rattle.lis_kept.specs.Telling.{declared_of, axioms_of}
 use Rattle.lis_store.specs.Drafts.{Draft, draft_of}
 
--- what a file would have by itself: what it was given, what is derived from it, and the declared tests that it meets
+-- a file's own words: those that it was given, those that are derived from it, and the declared tests that it meets
 abbrev pub described_words : Metadata → Draft → List (List ℕ)
 described_words k draft = draft.assigned ++ draft.own ++ met_tests (declared_of k) draft.size
 

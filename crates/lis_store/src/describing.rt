@@ -131,7 +131,7 @@ fn leaving(metadata: &Metadata, found: &Search, beside: Option<u16>) -> u32
     count
 }
 
-/// Measures what there would be with a file, in the place of that in a slot, if one is given.
+/// Measures what there would be with a file, instead of the one in a slot if a slot is given.
 pub(crate) fn measure(
     metadata: &Metadata,
     search: &mut Search,

@@ -58,7 +58,7 @@ fn find_with_heads(metadata: &Metadata, words: &[Word], search: &mut Search)
     }
 }
 
-// Whether a word is a declared test that so many bytes meet. Few words are tests, so that is asked first.
+// Whether a word is a declared test that a file of this size meets. Few words are tests, so that is asked first.
 fn is_met_word(metadata: &Metadata, word: &Word, size: u64) -> bool
     ensures { result ≡ (is_met (test_of word.now) size && is_declared metadata.now word.now) }
 {
