@@ -61,9 +61,6 @@ module _ (k : Metadata) where
 pub headed : (word : List ℕ) → is_valued word ≡ true → heads word ≡ head_bytes word ∷ []
 headed word valued = ap (λ b. cond b (head_bytes word ∷ []) []) valued
 
-pub headless : (word : List ℕ) → (is_valued word ≡ true → ⊥) → heads word ≡ []
-headless word not_valued = ap (λ b. cond b (head_bytes word ∷ []) []) (false_from_ne_true (is_valued word) not_valued)
-
 pub with_heads_few : (words : List (List ℕ)) → length (with_heads words) ≤ 2 * length words
 with_heads_few [] = omega arith
 with_heads_few (w ∷ words) = omega (arith, heads_le w, length-append (w ∷ heads w) (with_heads words), with_heads_few words)
