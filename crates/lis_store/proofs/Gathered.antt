@@ -1,6 +1,6 @@
 -- Words without numbers that are noted one after another, with their heads.
 use Rattle.std.proofs.Common.{rules}
-use Rattle.lis_store.proofs.Common.{◌≡◌, refl, sym, ap, ◌∙◌, subst, ℕ, ◌+◌, ◌*◌, ◌<◌, ◌≤◌, Bool, true, false, ◌&&◌, ◌||◌, cond, is_none, Option, Some, None, List, [], ◌∷◌, ◌++◌, length, take, get_or, arith, length-append, or-false, list_any-append, number_of, word_of, number_from_word, number_below, same_word, has_word, is_valued, head_bytes, same_word_decides, heads, Metadata, AreSound, false_from_ne_true}
+use Rattle.lis_store.proofs.Common.{◌≡◌, refl, sym, ap, ◌∙◌, subst, ℕ, ◌+◌, ◌*◌, ◌<◌, ◌≤◌, Bool, true, false, ◌&&◌, ◌||◌, cond, is_none, Option, Some, List, [], ◌∷◌, ◌++◌, length, take, get_or, arith, length-append, or-false, list_any-append, number_of, word_of, number_from_word, number_below, same_word, has_word, is_valued, head_bytes, same_word_decides, heads, Metadata, AreSound, false_from_ne_true}
 use Rattle.lis_model.proofs.NotedLemmas.{are_distinct-push}
 use Rattle.lis_laws.proofs.Few.{heads_le}
 use Rattle.lis_store.specs.Describing.{with_heads, Notes}
@@ -60,9 +60,6 @@ module _ (k : Metadata) where
 -- ---- words with their heads
 pub headed : (word : List ℕ) → is_valued word ≡ true → heads word ≡ head_bytes word ∷ []
 headed word valued = ap (λ b. cond b (head_bytes word ∷ []) []) valued
-
-pub headless : (word : List ℕ) → (is_valued word ≡ true → ⊥) → heads word ≡ []
-headless word not_valued = ap (λ b. cond b (head_bytes word ∷ []) []) (false_from_ne_true (is_valued word) not_valued)
 
 pub with_heads_few : (words : List (List ℕ)) → length (with_heads words) ≤ 2 * length words
 with_heads_few [] = omega arith

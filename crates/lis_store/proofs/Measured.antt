@@ -16,6 +16,7 @@ use Rattle.lis_store.specs.Describing.{with_heads, Notes, IsFound}
 use Rattle.lis_store.proofs.Entailment.{up_has_number}
 use Rattle.lis_store.proofs.Entailed.{ups_both}
 use Rattle.lis_store.proofs.Gathered.{numbered_below}
+use Rattle.lis_store.proofs.Found.{through, behind}
 use Rattle.lis_store.proofs.MetTests.{met_numbered}
 use Rattle.lis_store.proofs.Naming.{one_of}
 use Rattle.lis_store.proofs.Points.{AllApart, no_tie, length-with_more}
@@ -40,26 +41,6 @@ module _ (k : Metadata) (sound : AreSound k) where
   -- ---- what words lead to
   abbrev Up : List ℕ → List (List ℕ)
   Up = up (declared_of k) (axioms_of k)
-
-  -- a word without a number leads to itself, and through its head
-  first_link : (p q : List ℕ) → number_of k.dict p ≡ None → Among (Up p) q → (p ≡ q) ⊎ ((is_valued p ≡ true) × Among (Up (head_bytes p)) q)
-  first_link p q none m = let chain = entails_from_up (declared_of k) (axioms_of k) p q m in by chain.0 chain.1
-    where
-      not_numbered : (n : ℕ) → word_of k.dict n ≡ Some p → ⊥
-      not_numbered n is = none-some n (sym none ∙ number_from_word k.dict sound.dict p n is)
-
-      own : (len : ℕ) (r : List ℕ) → OwnLink (declared_of k) p r → Chain (links (declared_of k)) (axioms_of k) len r q → (p ≡ q) ⊎ ((is_valued p ≡ true) × Among (Up (head_bytes p)) q)
-      own len r (Head valued same) c =
-          inr (valued, up_from_entails (declared_of k) (axioms_of k) (head_bytes p) q (len, subst (λ v. Chain (links (declared_of k)) (axioms_of k) len v q) (sym same) c))
-      own len r (Weaker weaker) c = absurd (let found = declared_has_number k sound p weaker.from in not_numbered found.0 found.1)
-
-      by : (len : ℕ) → Chain (links (declared_of k)) (axioms_of k) len p q → (p ≡ q) ⊎ ((is_valued p ≡ true) × Among (Up (head_bytes p)) q)
-      by zero same = inl same
-      by (suc len) c = at c.1
-        where
-          at : Linked (links (declared_of k)) (axioms_of k) p c.0 → (p ≡ q) ⊎ ((is_valued p ≡ true) × Among (Up (head_bytes p)) q)
-          at (inl there) = own len c.0 (own_link (declared_of k) p c.0 (among_from_contains (links (declared_of k) p) c.0 there)) c.2
-          at (inr edge) = absurd (let found = among_axiom k sound (p, c.0) (among_from_contains (axioms_of k) (p, c.0) edge) in not_numbered found.1 found.4)
 
   -- ---- there are as many words as numbers
   abbrev word_list : ℕ → List (List ℕ)
@@ -127,30 +108,6 @@ module _ (k : Metadata) (sound : AreSound k) where
           (λ w m. to w m (number_of k.dict w) refl) (λ w m. from w (among_with_words told fresh w m))
 
   -- ---- what words with their heads entail
-  -- if a word leads to another one, so does the word or its head, and the one that does has a number or is that other word
-  through : (p q : List ℕ) → Among (Up p) q → (s : List ℕ) × Among (p ∷ heads p) s × Among (Up s) q × (number_of k.dict s ≡ None → s ≡ q)
-  through p q m = by (number_of k.dict p) refl
-    where
-      of_head : (h : List ℕ) → is_valued h ≡ false → (h ≡ q) ⊎ ((is_valued h ≡ true) × Among (Up (head_bytes h)) q) → h ≡ q
-      of_head h plain (inl same) = same
-      of_head h plain (inr further) = absurd (both_ways (is_valued h) plain further.0)
-
-      first : (p ≡ q) ⊎ ((is_valued p ≡ true) × Among (Up (head_bytes p)) q) → (s : List ℕ) × Among (p ∷ heads p) s × Among (Up s) q × (number_of k.dict s ≡ None → s ≡ q)
-      first (inl same) = (p, inl refl, m, λ none. same)
-      first (inr further) =
-          let h = head_bytes p in
-          (h, inr (heads_of_valued p further.0), further.1, λ none. of_head h (head_not_valued p) (first_link h q none further.1))
-
-      by : (o : Option ℕ) → number_of k.dict p ≡ o → (s : List ℕ) × Among (p ∷ heads p) s × Among (Up s) q × (number_of k.dict s ≡ None → s ≡ q)
-      by (Some n) is = (p, inl refl, m, λ none. absurd (none-some n (sym none ∙ is)))
-      by None none = first (first_link p q none m)
-
-  behind : (p s q : List ℕ) → Among (p ∷ heads p) s → Among (Up s) q → Among (Up p) q
-  behind p s q (inl same) m = subst (λ v. Among (Up v) q) (sym same) m
-  behind p s q (inr head) m =
-      let at = among_heads p s head in
-      up_trans (declared_of k) (axioms_of k) p s q (up_own (declared_of k) (axioms_of k) p s (subst (λ v. Among (links (declared_of k) p) v) at.1 (links_head (declared_of k) p at.0))) m
-
   abbrev All : List (List ℕ) → List (List ℕ)
   All words = all_up (declared_of k) (axioms_of k) words
 
@@ -158,13 +115,13 @@ module _ (k : Metadata) (sound : AreSound k) where
     source : (q : List ℕ) → Among (All words) q → (s : List ℕ) × Among (with_heads words) s × Among (Up s) q × (number_of k.dict s ≡ None → s ≡ q)
     source q m =
         let own = entailing (declared_of k) (axioms_of k) words q m in
-        let found = through own.0 q own.2 in
+        let found = through k sound own.0 q own.2 in
         (found.0, flat_map_among (λ (x : List ℕ). x ∷ heads x) words own.0 found.0 own.1 found.1, found.2, found.3)
 
     of_source : (s q : List ℕ) → Among (with_heads words) s → Among (Up s) q → Among (All words) q
     of_source s q m there =
         let own = among_flat_map (λ (x : List ℕ). x ∷ heads x) words s m in
-        entailed_in (declared_of k) (axioms_of k) words own.0 q own.1 (behind own.0 s q own.2 there)
+        entailed_in (declared_of k) (axioms_of k) words own.0 q own.1 (behind k sound own.0 s q own.2 there)
 
     -- what has no number is one of them, or a head
     noted_same : (w : List ℕ) → number_of k.dict w ≡ None → has_word (with_heads words) w ≡ has_word (All words) w

@@ -33,14 +33,6 @@ module _ (test : ℕ → Bool) where
           let next : n + 1 ≡ suc n = omega arith in
           rest fewer (λ k from lt. none k from (omega (arith, lt))) ∙ (found_none n (found_below test n) refl (none n fewer (omega arith)) ∙ ap (found_below test) next)
 
-  -- and counted
-  pub counted_one : (n count : ℕ) → count ≡ length (found_below test n) → test n ≡ true → count + 1 ≡ length (found_below test (n + 1))
-  counted_one n count was passes =
-      omega (arith, was, ap length (found_one n (found_below test n) (found_below test n ++ n ∷ []) refl passes refl), length-append (found_below test n) (n ∷ []))
-
-  pub counted_none : (n count : ℕ) → count ≡ length (found_below test n) → test n ≡ false → count ≡ length (found_below test (n + 1))
-  counted_none n count was fails = was ∙ ap length (found_none n (found_below test n) refl fails)
-
   -- the more numbers are tested, the more are found
   grows : (m n : ℕ) → m ≤ n → length (found_below test m) ≤ length (found_below test n)
   grows m zero le = ap_le (omega arith)

@@ -67,14 +67,11 @@ module _ (T : Type 0) (old : Stored) (slot : ℕ) (name : List ℕ) (sound : IsS
 module _ {old now : Stored} (view : old ≡ now) (sound : IsSound old) (unbroken_now : now.is_broken ≡ false) (place : List Formula) (name : List ℕ) {slot : ℕ} (named : slot_of now.metadata.catalog name ≡ Some slot)
     (here_now : true ≡ is_among now.metadata place name) {mid : Metadata} {before asked : Meaning}
     (given : (rec : FileRecord) → rec_at old.metadata.catalog slot ≡ Some rec → GivesBack rec old.metadata mid old.journal before × Asks old.journal before asked) where
-  found : (rec : FileRecord) × (rec_at old.metadata.catalog slot ≡ Some rec) × (rec.name ≡ name)
-  found = found_there view sound name named
-
   abbrev rec : FileRecord
-  rec = found.0
+  rec = (found_there view sound name named).0
 
   gives : GivesBack rec old.metadata mid old.journal before
-  gives = (given rec found.1).0
+  gives = (given rec (found_there view sound name named).1).0
 
   unbroken : old.is_broken ≡ false
   unbroken = whole_view view unbroken_now
@@ -83,7 +80,7 @@ module _ {old now : Stored} (view : old ≡ now) (sound : IsSound old) (unbroken
   form_given = form_taken old.metadata mid mid.taken gives.takes (in_form old sound)
 
   filed_given : rec_at mid.catalog slot ≡ Some rec
-  filed_given = ap (λ (k : Metadata). rec_at k.catalog slot) gives.takes.metadata ∙ found.1
+  filed_given = ap (λ (k : Metadata). rec_at k.catalog slot) gives.takes.metadata ∙ (found_there view sound name named).1
 
   pub there_given : IsSome (rec_at mid.catalog slot)
   there_given = ap is_some filed_given
@@ -116,7 +113,7 @@ module _ {old now : Stored} (view : old ≡ now) (sound : IsSound old) (unbroken
         let saves = subst (λ (h : Held). Saves q h new asked after result) same saves_it in
         let at_place : Situation = record { state = s; place = place } in
         let holds : StoreHolds old before base s = held_view view holds_now in
-        let asks = (given rec found.1).1 in
+        let asks = (given rec (found_there view sound name named).1).1 in
         let at : ℕ → List ℕ = looked old.journal.staged holds.kept in
         let gave = gives.given holds.kept holds.journal in
         let ts = mid.taken in
@@ -127,5 +124,5 @@ module _ {old now : Stored} (view : old ≡ now) (sound : IsSound old) (unbroken
         let here : is_among old.metadata place name ≡ true = ap (λ (k : Stored). is_among k.metadata place name) view ∙ sym here_now in
         holds_behind base at_place (rm at_place name) new before asked after result (asks_stand old base s before sound holds asked asks) (asks_past old base s before sound holds asked asks)
         (saves base at_place (rm at_place name) (file_removed s name) holds.kept (asks.fits holds.kept holds.journal) (same_limits ∙ holds.limits) (unplaced_stands old sound unbroken base s before holds)
-        (λ _. subst (λ n. IsReady q at (file_removed s n)) found.2 ready)
+        (λ _. subst (λ n. IsReady q at (file_removed s n)) (found_there view sound name named).2 ready)
         (ap (λ b. cond (not b) (refused at_place NoFileHere) (changed at_place (file_removed s name))) (sym (here_told old s sound (told_held old before base s sound holds) place name) ∙ here)))

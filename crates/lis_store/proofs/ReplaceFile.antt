@@ -139,9 +139,6 @@ module _ {old now : Stored} (same : old ≡ now) {mid : Metadata} {j : Held} (sl
   mid_same : mid.limits ≡ k.limits
   mid_same = ap (λ (x : Metadata). x.limits) renews.metadata
 
-  pub mid_limits : mid.limits ≡ now.metadata.limits
-  mid_limits = mid_same ∙ ap (λ (o : Stored). o.metadata.limits) same
-
   pub mid_in_form : are_blocks mid.limits.version (length bytes) numbers ≡ true
   mid_in_form = ap (λ (x : Limits). are_blocks x.version (length bytes) numbers) mid_same ∙ renews.in_form
 
@@ -272,22 +269,22 @@ module _ {old now : Stored} (same : old ≡ now) {mid : Metadata} {j : Held} (sl
 -- the blocks of a file are those of a record that has its size
 module _ {old now : Stored} (same : old ≡ now) (sound : IsSound old) (name : List ℕ) {slot : ℕ} (named : slot_of now.metadata.catalog name ≡ Some slot) {numbers : List ℕ}
     (numbers_are : (rec : FileRecord) → rec_at old.metadata.catalog slot ≡ Some rec → numbers ≡ rec.blocks) where
-  there : (rec : FileRecord) × (rec_at old.metadata.catalog slot ≡ Some rec) × (rec.name ≡ name)
-  there = found_there same sound name named
+  abbrev rec : FileRecord
+  rec = (found_there same sound name named).0
 
-  blocks_are : numbers ≡ there.0.blocks
-  blocks_are = numbers_are there.0 there.1
+  blocks_are : numbers ≡ rec.blocks
+  blocks_are = numbers_are rec (found_there same sound name named).1
 
-  sound_rec : is_sound_record old.metadata.limits.version old.metadata.dict old.metadata.limits.blocks there.0 ≡ true
-  sound_rec = sound.metadata.records slot there.0 there.1
+  sound_rec : is_sound_record old.metadata.limits.version old.metadata.dict old.metadata.limits.blocks rec ≡ true
+  sound_rec = sound.metadata.records slot rec (found_there same sound name named).1
 
   pub still_in_form : {size : ℕ} → ((rec : FileRecord) → rec_at old.metadata.catalog slot ≡ Some rec → size ≡ rec.size) → are_blocks old.metadata.limits.version size numbers ≡ true
-  still_in_form size = search (rules, there, blocks_are, record_in_form, sound_rec)
+  still_in_form size = let there = found_there same sound name named in search (rules, there, blocks_are, record_in_form, sound_rec)
 
   pub still_below : list_all (λ n. nat_lt n old.metadata.limits.blocks) numbers ≡ true
   still_below =
       ap (list_all (λ n. nat_lt n old.metadata.limits.blocks)) blocks_are
-      ∙ (and_parts (is_record old.metadata.limits.version there.0 && list_all (λ n. is_some (word_of old.metadata.dict n)) there.0.tags) (list_all (λ n. nat_lt n old.metadata.limits.blocks) there.0.blocks) sound_rec).1
+      ∙ (and_parts (is_record old.metadata.limits.version rec && list_all (λ n. is_some (word_of old.metadata.dict n)) rec.tags) (list_all (λ n. nat_lt n old.metadata.limits.blocks) rec.blocks) sound_rec).1
 
 module _ {old now : Stored} (same : old ≡ now) (sound : IsSound old) (unbroken_now : now.is_broken ≡ false) {gone : Option FileRecord} {q : Metadata} {draft : Draft} {numbers : List ℕ}
     (refiled : RefilesIn gone draft numbers old.metadata q) where

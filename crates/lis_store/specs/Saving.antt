@@ -1,5 +1,5 @@
 -- How a command ends: what is marked is staged, and all that is staged is committed, or held back.
-use Rattle.std.specs.Prelude.{◌≡◌, ℕ, ◌+◌, ◌<◌, ◌≤◌, Bool, true, false, List, [], length, replicate, Result, Ok, Err, OnOk, OnErr}
+use Rattle.std.specs.Prelude.{◌≡◌, ℕ, ◌+◌, ◌<◌, ◌≤◌, true, false, List, [], length, replicate, Result, OnOk, OnErr}
 use Rattle.lis_ports.specs.Meaning.{Meaning}
 use Rattle.lis_ports.specs.Runs.{Leaves}
 use Rattle.lis_journal.specs.Journal.{Held, shape_of}
@@ -14,7 +14,6 @@ use Rattle.lis_kept.specs.Image.{image_shape}
 use Rattle.lis_kept.specs.Sound.{AreSound}
 use Rattle.lis_kept.specs.Telling.{Tells}
 use Rattle.lis_store.specs.declared.change_fault.ChangeFault.{ChangeFault}
-use Rattle.lis_store.specs.declared.change_fault.ChangeFault.TheVariants.{Refused, Disk}
 use Rattle.lis_store.specs.Stands.{Stands}
 use Rattle.lis_store.specs.Stored.{Stored, IsSound}
 use Rattle.lis_store.specs.Changes.{Holds, EndsUnrefused}

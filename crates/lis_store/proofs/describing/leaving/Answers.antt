@@ -1,5 +1,5 @@
 use Rattle.std.proofs.lemmas.List.Sums.{count_by_more_no, count_by_more_yes, count_by-le-length}
-use Rattle.lis_store.proofs.Common.{◌≡◌, ◌∙◌, ℕ, Bool, not, ◌&&◌, length, take, sym, ap, subst, IfSome, IsSome, arith, count_by, get_or, take_all, length-take-le, rec_at, word_of, has, is_used, emptied, named_below, Contains-get_or, Among, among_from_contains, number_from_among, ◌+◌}
+use Rattle.lis_store.proofs.Common.{◌∙◌, ℕ, Bool, not, ◌&&◌, length, take, sym, ap, subst, IfSome, IsSome, arith, count_by, get_or, take_all, length-take-le, rec_at, is_used, emptied, named_below, Contains-get_or, Among, among_from_contains, number_from_among, ◌+◌}
 use Rattle.lis_ext.specs.Numbers.{has_number}
 use Rattle.lis_taxonomy.specs.Search.{is_found}
 use Rattle.lis_store.specs.Beside.{leaving}

@@ -1,6 +1,7 @@
 use Rattle.lis_store.proofs.Common.{ℕ, ◌∙◌, ◌∷◌, [], refl, sym, ap, subst, List}
 use Rattle.lis_store.specs.Describing.{Notes}
-use Rattle.lis_store.proofs.Gathered.{notes_more, headed, headless}
+use Rattle.lis_store.proofs.Gathered.{notes_more, headed}
+use Rattle.lis_store.proofs.Found.{headless}
 use Rattle.lis_store.proofs.describing.note_with_head.Goals as goal
 
 pub returns-in-Some : goal.returns-in-Some

@@ -1,4 +1,4 @@
-use Rattle.lis_store.proofs.Common.{◌∙◌, nat_lt, sym, ap, subst, list_all, are_blocks, Limits}
+use Rattle.lis_store.proofs.Common.{◌∙◌, nat_lt, ap, subst, list_all, are_blocks, Limits}
 use Rattle.lis_store.specs.Drafts.{drafted}
 use Rattle.lis_store.specs.Admitting.{IsAdmitted}
 use Rattle.lis_store.specs.ReplacingIn.{MayPut, record_in}
