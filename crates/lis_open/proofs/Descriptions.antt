@@ -6,7 +6,7 @@ use Rattle.lis_dict.specs.Dict.{words as words_of}
 use Rattle.lis_dict.proofs.Laws.{number_from_among}
 use Rattle.lis_open.specs.declared.words.Words.{Words}
 use Rattle.lis_open.specs.ReadWords.{declared_words, is_left, is_right, kept_words, AreFirstAxioms, AreFirstWords}
-use Rattle.lis_open.specs.ReadFiles.{is_assignable_by, is_assignable_number, is_numbered, numbers_of, own_numbers, found_words, is_described, described}
+use Rattle.lis_open.specs.ReadFiles.{is_assignable_by, is_assignable_number, is_numbered, numbers_of, own_numbers, found_words, described}
 use Rattle.lis_kept.specs.Telling.{declared_of, is_declared}
 use Rattle.lis_laws.proofs.Locals.{same_tests}
 use Rattle.lis_open.specs.declared.axioms.Axioms.{Axioms}
@@ -14,7 +14,7 @@ use Rattle.lis_laws.proofs.Sources.{assignable_cases}
 use Rattle.lis_laws.proofs.Sources.Assignable.{Plain, Valued}
 use Rattle.lis_model.specs.Derived.{derived_words}
 use Rattle.lis_graph.proofs.Graph.{chain_append}
-use Rattle.lis_taxonomy.specs.Taxonomy.{Entails}
+use Rattle.lis_taxonomy.specs.Taxonomy.{Entails, any_entails}
 use Rattle.lis_kept.proofs.OwnLinks.{pair_slot}
 use Rattle.lis_kept.proofs.Entailed.{edge_of, leads_joined}
 use Rattle.lis_kept.proofs.EdgesTell.{tells_links}
@@ -402,7 +402,7 @@ module _ (limits : Limits) (words : Words) (axioms : Axioms) (end : ℕ) (are : 
   led_to own n m = search (rules, among_where, among_from_any, entails_decides)
 
   pub leads_there : (own : List ℕ) (m n : ℕ) → Among own m → Leads axioms.taxonomy m n → n < axioms.taxonomy.props → Among (described axioms.taxonomy own) n
-  leads_there own m n here leads below = where_among t.props (is_described t own) n below (any_from_among (λ j. entails t j n) own m here ((entails_decides t m n).1 leads))
+  leads_there own m n here leads below = where_among t.props (any_entails t own) n below (any_from_among (λ j. entails t j n) own m here ((entails_decides t m n).1 leads))
 
   -- it has all numbers to which one of its numbers is linked
   pub described_on : (own : List ℕ) (p q : ℕ) (w : List ℕ) → Among (described axioms.taxonomy own) p → is_linked kept p q ≡ true → IsNumbered words p w → Among (described axioms.taxonomy own) q
@@ -438,4 +438,4 @@ module _ (limits : Limits) (words : Words) (axioms : Axioms) (end : ℕ) (are : 
 
     pub description_long : length (words_told words.dict (described axioms.taxonomy (own_numbers words.dict rec.tags (found_words words rec.name bytes))))
         ≡ length (described axioms.taxonomy (own_numbers words.dict rec.tags (found_words words rec.name bytes)))
-    description_long = told_long words dict _ _ file_are (sorted_where t.props (is_described t (own_numbers words.dict rec.tags (found_words words rec.name bytes))))
+    description_long = told_long words dict _ _ file_are (sorted_where t.props (any_entails t (own_numbers words.dict rec.tags (found_words words rec.name bytes))))

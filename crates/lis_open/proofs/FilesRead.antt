@@ -1,6 +1,6 @@
 -- The files of file slots, read one after another.
 use Rattle.std.proofs.Common.{ltb-false, leb-false}
-use Rattle.lis_open.proofs.Common.{rules, ◌≡◌, ◌⊎◌, ◌∙◌, refl, sym, ap, subst, inl, inr, ℕ, ◌+◌, ◌<◌, ◌≤◌, ◌==◌, nat_lt, nat_le, Bool, true, false, cond, not, ◌&&◌, ◌||◌, is_some, Option, Some, None, List, [], length, get_or, IsTrue, arith, eq-eqb, length-set, get_or-set_same, get_or-set_other, ◌∷◌, IfSome, ne_eqb, lt-ltb, leb-true, flat_map, ⊎_elim, list_all, or_cases, or_left, or_right, length-replicate, same_Some, Meaning, DiskFaultEnds, Held, Fits, slot, HasShape, is_taken, are_free, are_distinct, are_below, word_of, number_below, number_from_word, rec_at, FileRecord, file_bytes, is_file, is_record, FileSlot, FreeFile, Used, Limits, bytes_told, blocks_told, HasIndex, record_at, file_slots, among_from_number, numbers_at, cases_lt, Among, is_large, index_bytes, numbers_in, index_home, number_of, Filed, prop_bytes, is_prop, axiom_bytes, is_axiom, PropSlot, AxiomSlot, prop_once, axiom_once, same_word, is_valued, head_bytes, same_word_decides, among_from_has_word, Spot, data_start, blocks_needed, file_words, own_words, up, is_assignable, property_slots, axiom_slots, words_told, file_told, axioms_of, words_in, word_at, one_array, and_parts, and_from, both_ways, false_from_ne_true, Rows, has_number, not_true, all_among, flat_map_among, has_word, has_word_from_among, set_of_among, ⊎_map, cases_Bool}
+use Rattle.lis_open.proofs.Common.{rules, ◌≡◌, ◌⊎◌, ◌∙◌, refl, sym, ap, subst, inl, inr, ℕ, ◌+◌, ◌<◌, ◌≤◌, ◌==◌, nat_lt, nat_le, Bool, true, false, cond, not, ◌&&◌, ◌||◌, is_some, Option, Some, None, List, [], length, get_or, IsTrue, arith, eq-eqb, length-set, get_or-set_same, get_or-set_other, ◌∷◌, IfSome, ne_eqb, lt-ltb, leb-true, flat_map, ⊎_elim, list_all, or_cases, or_left, or_right, length-replicate, same_Some, Meaning, DiskFaultEnds, Held, Fits, slot, is_taken, are_free, are_distinct, are_below, word_of, number_below, number_from_word, rec_at, FileRecord, file_bytes, is_file, is_record, FileSlot, FreeFile, Used, Limits, bytes_told, blocks_told, HasIndex, record_at, file_slots, among_from_number, numbers_at, cases_lt, Among, is_large, index_bytes, numbers_in, index_home, number_of, Filed, prop_bytes, is_prop, axiom_bytes, is_axiom, PropSlot, AxiomSlot, prop_once, axiom_once, same_word, is_valued, head_bytes, same_word_decides, among_from_has_word, Spot, data_start, blocks_needed, file_words, own_words, up, is_assignable, property_slots, axiom_slots, words_told, file_told, axioms_of, words_in, word_at, one_array, and_parts, and_from, both_ways, false_from_ne_true, has_number, not_true, all_among, flat_map_among, has_word, has_word_from_among, set_of_among, ⊎_map, cases_Bool}
 use Rattle.std.proofs.lemmas.Bool.{and_cases, not-false}
 use Rattle.lis_content.proofs.Numbers.{length-marked, below_from_free, below_if_taken}
 use Rattle.lis_catalog.specs.Catalog.{Catalog, IsCatalog, slot_of, with_filed}
@@ -237,11 +237,10 @@ module _ (limits : Limits) (MayBeKept : (ℕ → List ℕ) → Type 0) (words : 
 
 -- ---- the loop
 -- the slots below the end were read, by runs that only read
-pub record FilesTurn (journal : Held) (limits : Limits) (words : Words) (axioms : Axioms) (old now : Meaning) (last_old last : LastBlock) (files : Files) (row : Rows) (end : ℕ) : Type 0 where
+pub record FilesTurn (journal : Held) (limits : Limits) (words : Words) (axioms : Axioms) (old now : Meaning) (last_old last : LastBlock) (files : Files) (end : ℕ) : Type 0 where
   pub reads : OnlyReads old now
   pub faults : now.disk_faults ≡ old.disk_faults
   pub first_fault : DiskFaultEnds old now
-  pub shape : HasShape row 1 axioms.taxonomy.props
   pub first : AreFirstFiles limits words axioms files end
   pub recalls : StillRecalls journal old last_old last
   pub so_far : (kept : ℕ → List ℕ) → Fits journal old kept → Recalls last_old kept → AreSoFar limits kept words axioms files end

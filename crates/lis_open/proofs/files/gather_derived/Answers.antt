@@ -1,11 +1,11 @@
-use Rattle.lis_open.proofs.Common.{length, get_or, refl, sym, ap, subst, ◌∙◌, arith, take_all, list_all, with_row, number_below, entails}
+use Rattle.lis_open.proofs.Common.{length, get_or, refl, sym, ap, subst, ◌∙◌, arith, take_all, list_all, number_below}
 use Rattle.std.proofs.lemmas.List.Folds.{list_all_at}
 use Rattle.lis_open.specs.ReadFiles.{Gathered, is_numbered, numbers_of}
 use Rattle.lis_open.proofs.Gathering.{gathered_none, words_more}
 use Rattle.lis_open.proofs.files.gather_derived.Goals as goal
 
 pub loop-word-init : goal.loop-word-init
-loop-word-init c = record { gathered = gathered_none c.args.taxonomy.now c.args.gathering.now.row c.requires.shape; all = refl }
+loop-word-init c = record { gathered = gathered_none c.args.search.now; all = refl }
 
 pub returns-in_default-clause-all : goal.returns-in_default-clause-all
 returns-in_default-clause-all c =
@@ -15,16 +15,17 @@ returns-in_default-clause-all c =
     sym (list_all_at (is_numbered c.args.words.now.dict) c.args.derived.now l.word-index c.word-item.result (omega (arith, c.loop-word-test.true, ap length words))
     (ap (is_numbered c.args.words.now.dict) (sym here) ∙ c.in_default.ensures))
 
-pub gather_one-requires-clause-below : goal.gather_one-requires-clause-below
-gather_one-requires-clause-below c = omega (arith, number_below c.args.words.now.dict c.requires.are.dict c.word-item.result c.in-Some.number c.in-Some.ensures.1, c.requires.props)
+pub meet-requires : goal.meet-requires
+meet-requires c = omega (arith, number_below c.args.words.now.dict c.requires.dict c.word-item.result c.in-Some.number c.in-Some.ensures.1, c.requires.few)
 
 pub loop-word-preserved : goal.loop-word-preserved
 loop-word-preserved c =
     let l = c.loop-word in
     let words = c.as_slice-word-items.ensures.words in
     let word = c.word-item.result in
-    words_more c.args.words.now c.args.taxonomy.now c.args.derived.now c.args.gathering.now.row l.gathering.row c.gather_one.new.gathering.row l.word-index word c.in-Some.number l.invariant
-    (omega (arith, c.loop-word-test.true, ap length words)) (c.word-item.is ∙ ap (λ ws. get_or ws l.word-index word) words) c.in-Some.ensures.0 c.in-Some.ensures.1 c.gather_one.ensures
+    rw (c.meet.ensures, c.from.ensures)
+    (words_more c.args.words.now c.args.derived.now c.args.search.now l.search l.word-index word c.in-Some.number l.invariant (omega (arith, c.loop-word-test.true, ap length words))
+    (c.word-item.is ∙ ap (λ ws. get_or ws l.word-index word) words) c.in-Some.ensures.0 c.in-Some.ensures.1)
 
 pub returns-clause-all : goal.returns-clause-all
 returns-clause-all c =
@@ -34,4 +35,4 @@ returns-clause-all c =
 pub returns-clause-gathered : goal.returns-clause-gathered
 returns-clause-gathered c =
     let all = take_all c.loop-word.word-index c.args.derived.now (omega (arith, c.loop-word-test.false, ap length c.as_slice-word-items.ensures.words)) in
-    subst (λ ws. Gathered c.args.taxonomy.now c.args.gathering.now.row c.loop-word.gathering.row (numbers_of c.args.words.now.dict ws)) all c.loop-word.invariant.gathered
+    subst (λ ws. Gathered c.args.search.now c.loop-word.search (numbers_of c.args.words.now.dict ws)) all c.loop-word.invariant.gathered

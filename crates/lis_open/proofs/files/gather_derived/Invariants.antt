@@ -2,4 +2,4 @@ use Rattle.lis_open.proofs.Gathering.{WordsGathered}
 use Rattle.lis_open.proofs.files.gather_derived.Given as goal
 
 abbrev pub invariant-loop-word : goal.invariant-loop-word
-invariant-loop-word l = WordsGathered l.words l.taxonomy l.derived l.fn.gathering.row l.gathering.row l.word-index
+invariant-loop-word l = WordsGathered l.words l.derived l.fn.search l.search l.word-index

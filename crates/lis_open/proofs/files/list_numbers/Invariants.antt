@@ -1,10 +1,11 @@
-use Rattle.lis_open.proofs.Common.{◌≡◌, ◌≤◌, ◌-◌, ◌++◌, length, get}
+use Rattle.lis_open.proofs.Common.{◌≡◌, ◌≤◌, ◌-◌, ◌++◌, length}
 use Rattle.lis_ext.specs.Numbers.{numbers_where}
 use Rattle.lis_ext.proofs.Numbers.{numbers_from}
+use Rattle.lis_taxonomy.specs.Search.{is_found}
 use Rattle.lis_open.proofs.files.list_numbers.Given as goal
 
 abbrev pub invariant-loop-number : goal.invariant-loop-number
-invariant-loop-number l = (l.numbers.items ++ numbers_from l.row.bits l.start (get l.row 0) ≡ numbers_where l.row.bits (get l.row 0)) × (length l.numbers.items ≤ 128)
+invariant-loop-number l = (l.numbers.items ++ numbers_from 8192 l.start (is_found l.search) ≡ numbers_where 8192 (is_found l.search)) × (length l.numbers.items ≤ 128)
 
 abbrev pub decreases-loop-number : goal.decreases-loop-number
-decreases-loop-number l = l.row.bits - l.start
+decreases-loop-number l = 8192 - l.start

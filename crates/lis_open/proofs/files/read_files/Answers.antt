@@ -12,7 +12,6 @@ loop-slot-init g c = record {
   reads = reads_none (g.D.Disk.meaning c.args.disk.now);
   faults = refl;
   first_fault = ends_none (g.D.Disk.meaning c.args.disk.now);
-  shape = record { tall = c.requires.shape.tall; wide = c.requires.shape.wide ∙ sym c.requires.axioms.links.props };
   first = subst (λ (files : Files). AreFirstFiles c.args.known.limits.now c.args.known.words.now c.args.known.axioms.now files 0) (sym c.requires.none) (no_files_yet c.args.known.limits.now c.args.known.words.now c.args.known.axioms.now);
   recalls = λ kept fits recalls. recalls;
   so_far = λ kept fits recalls. none_so_far c.args.known.limits.now c.args.known.words.now c.args.known.axioms.now c.args.files.now kept c.requires.none;
@@ -65,7 +64,6 @@ loop-slot-preserved g c =
       reads = reads_then to_found took.reads;
       faults = took.cause.stays ∙ faults;
       first_fault = ends_then (ends_then l.invariant.first_fault l.invariant.faults read.first_fault) faults took.first_fault;
-      shape = c.in_ok-is_taken.ensures.shape;
       first = files_on limits MayBeKept words axioms l.files l.slot l.invariant.first below found next form taken;
       recalls = λ kept fits recalls. c.in_ok-found.ensures.recalls kept (fits_after c.args.known.journal.now kept l.invariant.reads fits) (l.invariant.recalls kept fits recalls);
       so_far = λ kept fits recalls.

@@ -22,12 +22,12 @@ describe-requires-clause-below g c =
 pub file-requires-clause-rise : goal.file-requires-clause-rise
 file-requires-clause-rise g c =
     described_rise c.args.known.axioms.now.taxonomy (own_numbers c.args.known.words.now.dict c.args.rec.tags (found_words c.args.known.words.now c.args.rec.name c.bytes.result.now)) c.as_slice.result.now
-    (c.as_slice.ensures.value ∙ c.in-Some-describe.ensures.described.1)
+    (c.as_slice.ensures.value ∙ c.in-Some-describe.ensures.1)
 
 pub file-requires-clause-in_range : goal.file-requires-clause-in_range
 file-requires-clause-in_range g c =
     described_in c.args.known.axioms.now.taxonomy (own_numbers c.args.known.words.now.dict c.args.rec.tags (found_words c.args.known.words.now c.args.rec.name c.bytes.result.now)) c.as_slice.result.now
-    c.args.files.now.ext.props (c.requires.ext ∙ sym c.requires.props) (c.as_slice.ensures.value ∙ c.in-Some-describe.ensures.described.1)
+    c.args.files.now.ext.props (c.requires.ext ∙ sym c.requires.props) (c.as_slice.ensures.value ∙ c.in-Some-describe.ensures.1)
 
 pub returns-in_default-clause-refused : goal.returns-in_default-clause-refused
 returns-in_default-clause-refused g c = (refl, λ kept fits. NoBlocks (rw c.in_default.is at (c.in_ok-blocks.ensures.found kept fits)))
@@ -44,7 +44,7 @@ returns-in-None-clause-refused g c =
           let has = c.in_ok-read_content.ensures.words kept (fits_after c.args.known.journal.now kept c.in_ok-blocks.ensures.disk.reads fits) told in
           NotDescribed
           (subst (λ ws. may_describe words c.args.known.axioms.now.taxonomy rec ws ≡ false) (ap (found_words words rec.name) c.bytes.ensures.bytes ∙ same_words words has)
-          c.in-None.ensures.described),
+          c.in-None.ensures),
     )
 
 pub returns-in-Some-describe-clause-taken : goal.returns-in-Some-describe-clause-taken
@@ -55,13 +55,13 @@ returns-in-Some-describe-clause-taken g c =
     let blocks = c.as_slice-all_blocks.result.now in
     let same = c.as_slice-all_blocks.ensures.value in
     let usable = rw c.in-Some.is at c.in_ok-blocks.ensures.usable in
-    let numbers = c.as_slice.ensures.value ∙ c.in-Some-describe.ensures.described.1 in
+    let numbers = c.as_slice.ensures.value ∙ c.in-Some-describe.ensures.1 in
     record {
       bytes = c.bytes.result.now;
       blocks = blocks;
       sized = ap length c.bytes.ensures.bytes ∙ c.in_ok-read_content.ensures.size;
       filed = sym c.if-not-may_file.ensures;
-      describes = c.in-Some-describe.ensures.described.0;
+      describes = c.in-Some-describe.ensures.0;
       usable = record { own = usable.own; free = ap (are_free files.map) same ∙ usable.free; distinct = ap are_distinct same ∙ usable.distinct };
       takes = subst (λ ns. TakesNumbers c.args.slot rec blocks ns files c.file.new.files) numbers c.file.ensures;
       told = λ kept fits.
