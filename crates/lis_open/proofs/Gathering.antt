@@ -3,7 +3,7 @@
 use Rattle.std.proofs.Common.{rules}
 pub use Rattle.lis_open.specs.ReadFiles.{Gathered}
 use Rattle.std.proofs.Common.{All}
-use Rattle.lis_open.proofs.Common.{◌≡◌, ℕ, ◌<◌, ◌||◌, Option, Some, None, List, [], ◌∷◌, ◌++◌, get_or, ⊎_elim, ◌==◌, sym, ap, ◌∙◌, subst, arith, ◌+◌, nat_le, nat_lt, true, false, ◌&&◌, option_to_list, length, take, ◌≤◌, Bool, not, is_some, slice_get, le-leb, ltb-true, or-false, IsTrue, Among, all_among, among_flat_map, among_from_contains, has_number, Taxonomy, list_all, list_all-append, number_below, number_of, FileRecord, or_left, IsDict, is_valued, head_bytes, met_tests, Metadata, bit_of, and_from, both_ways, nat_cmp}
+use Rattle.lis_open.proofs.Common.{◌≡◌, ℕ, ◌<◌, ◌||◌, Option, Some, None, List, [], ◌∷◌, ◌++◌, get_or, ⊎_elim, ◌==◌, refl, sym, ap, ◌∙◌, subst, arith, ◌+◌, nat_le, nat_lt, true, false, ◌&&◌, option_to_list, length, take, ◌≤◌, Bool, not, is_some, slice_get, le-leb, ltb-true, or-false, IsTrue, Among, all_among, among_flat_map, among_from_contains, has_number, Taxonomy, list_all, list_all-append, number_below, number_of, FileRecord, or_left, IsDict, is_valued, head_bytes, met_tests, Metadata, bit_of, and_from, both_ways, nat_cmp}
 use Rattle.std.specs.List.Sorted.{IsStrictlyIncreasing}
 use Rattle.std.proofs.Math.Bool.{or_assoc, and-true}
 use Rattle.std.proofs.lemmas.List.Elements.{Contains-get_or}

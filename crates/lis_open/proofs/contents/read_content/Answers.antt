@@ -1,4 +1,4 @@
-use Rattle.lis_open.proofs.Common.{◌≡◌, ◌∙◌, ap, Bool, ℕ, nat_lt, length, arith, list_all, on_ok_weaker, FileRecord, blocks_needed}
+use Rattle.lis_open.proofs.Common.{◌≡◌, ◌∙◌, ap, Bool, ℕ, nat_lt, arith, list_all, on_ok_weaker, FileRecord, blocks_needed}
 use Rattle.lis_content.proofs.Numbers.{within_if_below}
 use Rattle.lis_open.proofs.BlocksRead.{few_blocks, size_of_form}
 use Rattle.lis_open.proofs.ContentRead.{content_of_told, first_pass, told_words}

@@ -1,4 +1,4 @@
-use Rattle.lis_open.proofs.Common.{◌≡◌, ◌∙◌, ap, sym, ℕ, ◌+◌, ◌*◌, nat_lt, true, length, take, get_or, arith, ltb-true}
+use Rattle.lis_open.proofs.Common.{◌∙◌, ap, sym, ◌+◌, ◌*◌, nat_lt, length, take, get_or, arith, ltb-true}
 use Rattle.lis_content.proofs.Places.{filled_next}
 use Rattle.lis_content.proofs.Reading.{filled_all}
 use Rattle.lis_derive.specs.Fronts.{gives_all}

@@ -1,6 +1,5 @@
-use Rattle.lis_open.proofs.Common.{sym, subst, take, ◌∷◌, [], take_all, nat_lt, get_or, all_among, ltb-true, among_from_contains}
+use Rattle.lis_open.proofs.Common.{sym, subst, take, ◌∷◌, [], take_all, get_or}
 use Rattle.std.proofs.lemmas.List.{take_more}
-use Rattle.std.proofs.lemmas.List.Elements.{Contains-get_or}
 use Rattle.lis_taxonomy.specs.Search.{met}
 use Rattle.lis_open.proofs.Gathering.{Gathered, gathered_none, gathered_then, gathered_one}
 use Rattle.lis_open.proofs.files.gather.Goals as goal

@@ -2,7 +2,7 @@ use Rattle.lis_open.proofs.Common.{◌∙◌, sym, ap, ap₂, ◌+◌, ◌++◌,
 use Rattle.lis_open.proofs.BlocksRead.{large_found, large_missed}
 use Rattle.lis_open.proofs.indexes.all_blocks.Goals as goal
 use Rattle.std.proofs.Common.{arith}
-use Rattle.lis_kept.proofs.Image.{same_homes, same_blocks}
+use Rattle.lis_kept.proofs.Image.{same_homes}
 
 pub read_numbers-requires-clause-home : goal.read_numbers-requires-clause-home
 read_numbers-requires-clause-home g c = omega (arith, c.data_start.ensures.start, same_homes c.requires.readable.image)
