@@ -1,4 +1,4 @@
-use Rattle.lis_open.proofs.Common.{◌∙◌, sym, ap, not, is_some, arith, is_taken, get, word_of, is_had}
+use Rattle.lis_open.proofs.Common.{◌∙◌, sym, ap, not, is_some, is_taken, get, word_of, is_had}
 use Rattle.lis_open.proofs.Lefts.{stray_not, stray_is}
 use Rattle.lis_open.proofs.checks.is_stray.Goals as goal
 

@@ -1,5 +1,5 @@
 use Rattle.std.proofs.Common.{IfOk, ap₂}
-use Rattle.lis_open.proofs.Common.{rules, refl, ◌≡◌, ◌⊎◌, ℕ, List, ◌∙◌, sym, ap, subst, Err, Result, false, arith, err_from_is_err_and, block, Held, Leaves, IsSettled, image_blocks, Stored, IsSound, recovered}
+use Rattle.lis_open.proofs.Common.{rules, refl, ◌≡◌, ◌⊎◌, ℕ, List, ◌∙◌, sym, ap, subst, Err, Result, false, arith, err_from_is_err_and, block, Held, Leaves, IsSettled, Stored, IsSound, recovered}
 use Rattle.lis_journal.specs.declared.layout.Capacity.{Capacity}
 use Rattle.lis_journal.specs.Journal.{shape_of}
 use Rattle.lis_journal.specs.Recovery.{InRecovery, MountEnded}
