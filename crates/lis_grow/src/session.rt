@@ -54,8 +54,8 @@ fn carry_out<T: Station>(
 
 /// Runs the session that is made from the number, and shows its summary instead of the replies. It allocates no memory.
 ///
-/// At any moment the image represents the state after some first items, and what was shown is a prefix of the summary. The summary begins
-/// only after all items were run.
+/// Whenever it stops, the image represents the state after some first items, and what was shown is a prefix of the summary. The summary
+/// begins only after all items were run.
 pub fn grow_session<T: Station>(
     session: &mut Session,
     payload: &mut Payload,

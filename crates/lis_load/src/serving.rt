@@ -21,9 +21,9 @@ use lis_session::end::End;
 /// Runs the items of the input, up to its end, its limit or the first fault, with many changes in one commit. It takes at most one byte
 /// past the limit, and allocates no memory. While it waits for input no change is held back, and no reply waits.
 ///
-/// At any moment the image represents the state after some first items, and what was shown is a prefix of their replies. Of these items at
-/// most the last 256 have replies that were not shown whole. No reply is shown before the image has its change, and no change is lost whose
-/// reply was begun.
+/// Whenever it stops, the image represents the state after some first items, and what was shown is a prefix of their replies. Of these
+/// items at most the last 256 have replies that were not shown whole. No reply is shown before the image has its change, and no change is
+/// lost whose reply was begun.
 pub fn serve_load<S: Source, T: Station>(
     loader: &mut Loader,
     payload: &mut Payload,

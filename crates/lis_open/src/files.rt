@@ -1,6 +1,6 @@
 //! The files of an image: its file slots, and the descriptions that they have.
 
-ghost use Rattle.std.specs.Prelude.{◌≡◌, ◌<◌, ◌≤◌, ◌&&◌, ◌∷◌, [], nat_lt, ℕ, List, length, All, Some, None, IsTrue, IfOk, IfSome, OnOk};
+ghost use Rattle.std.specs.Prelude.{◌≡◌, ◌<◌, ◌≤◌, ◌&&◌, nat_lt, ℕ, List, length, All, Some, None, IsTrue, IfOk, IfSome, OnOk};
 ghost use Rattle.std.specs.Bool.{OnTrue, OnFalse};
 ghost use Rattle.std.specs.List.{list_all};
 ghost use Rattle.std.specs.List.Sorted.{IsStrictlyIncreasing};
@@ -126,7 +126,7 @@ fn gather(numbers: &[u16], search: &mut Search)
     }
 }
 
-// Finds the numbers of the derived words, and answers whether each of them, and its head, has a number.
+// Finds the numbers of the derived words. The result is whether each of them, and its head, has a number.
 fn gather_derived(words: &Words, derived: &Derived, search: &mut Search) -> bool
     requires { AreWords words.now }
     ensures all { result ≡ list_all (is_numbered words.now.dict) derived.now }

@@ -22,8 +22,9 @@ pub struct OpeningMemory {
     pub words: Words,
     pub axioms: Axioms,
     pub files: Files,
-    /// Each reader uses it as it likes.
+    /// The check of the words uses it.
     pub row: Rows,
+    /// It finds the descriptions of files.
     pub search: Search,
     /// The bytes of the file that is read.
     pub bytes: Buffer,

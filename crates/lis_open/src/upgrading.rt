@@ -45,7 +45,7 @@ fn write_gate<D: Disk>(disk: &mut D) -> Result<(), Failed>
 /// Makes the image on a disk one of version 2. It opens the image first, and refuses it as `mount` does. Then it writes the gate, in a
 /// separate write, and syncs. All memory is allocated before.
 ///
-/// At any moment the image represents its state, or the same state in version 2, or is one that a crash could have left before.
+/// Whenever it stops, the image represents its state, or the same state in version 2, or is one that a crash could have left before.
 pub fn upgrade<D: Disk>(alloc: Global, disk: &mut D) -> Result<(), OpenFault>
     ensures run { IsDiskRun (D.meaning disk.old) (D.meaning disk.new) }
     ensures cause { HasOpenCause (D.meaning disk.old).disk_faults (D.meaning disk.new).disk_faults result }

@@ -23,8 +23,8 @@ use lis_session::end::End;
 /// Runs the items of the input, each in its room, up to the end of the input, its limit or the first fault. It takes at most one byte past
 /// the limit, and allocates no memory: the rooms have all of it.
 ///
-/// At any moment the image represents the state after some first items, and what was shown is a prefix of their replies that lacks at most
-/// the last one. The line of a room is the last of a reply, so it comes after the change.
+/// Whenever it stops, the image represents the state after some first items, and what was shown is a prefix of their replies that lacks at
+/// most the last one. The line of a room is the last of a reply, so it comes after the change.
 pub fn serve_rooms<S: Source, T: Station>(
     rooms: &mut Rooms,
     payload: &mut Payload,

@@ -31,8 +31,8 @@ pub const INPUT_LIMIT: u64 = 1 << 40;
 /// Runs the items of the input on the image, up to its end, its limit or the first fault. It takes at most one byte past the limit, and
 /// allocates no memory: the session has made room for any state within the limits.
 ///
-/// At any moment the image represents the state after some first items, and what was shown is a prefix of their replies that lacks at most
-/// the last one. No reply is shown before the image has its change, and no change is lost whose reply was begun.
+/// Whenever it stops, the image represents the state after some first items, and what was shown is a prefix of their replies that lacks at
+/// most the last one. No reply is shown before the image has its change, and no change is lost whose reply was begun.
 pub fn serve<S: Source, T: Station>(
     session: &mut Session,
     payload: &mut Payload,

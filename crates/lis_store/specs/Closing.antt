@@ -109,7 +109,7 @@ anew k concerned base slot = if concerned slot then closure k (base slot) else n
 abbrev pub rebuilt : Metadata → Rebuild → ℕ → List ℕ
 rebuilt k how = anew k (is_concerned k how) (base_at k how)
 
--- what a description that loses an axiom may lose with it: just what the right number entails is found
+-- What is found that a description may lose: if it loses an axiom, just what the right number entails; otherwise nothing.
 abbrev pub FindsLost : Metadata → Rebuild → List ℕ → Type 0
 FindsLost k (Having number) found = found ≡ []
 FindsLost k (Losing left right) found = AreGained k (right ∷ []) found

@@ -89,7 +89,7 @@ fn note_all(metadata: &Metadata, fresh: &mut Fresh, words: &[Word])
     }
 }
 
-// Finds the numbers of the description of a file. The answer is those of its words that have none.
+// Finds the numbers of the description of a file. The result is those of its words that have none.
 fn find_draft(metadata: &Metadata, search: &mut Search, draft: Draft) -> Fresh
     requires sound { AreSound metadata.now }
     requires few { length draft.assigned.now ≤ MAX_ASSIGNED }
