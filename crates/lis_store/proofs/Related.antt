@@ -10,7 +10,8 @@ use Rattle.lis_store.specs.Adding.{behind_head}
 use Rattle.lis_store.specs.Relating.{entails_word, is_number_of, is_overfull, has_overfull, axiom_checks_of, MayRelate}
 use Rattle.lis_store.proofs.Entailment.{up_has_number}
 use Rattle.lis_store.proofs.StoreSays.{numbered, file_of_filed, limits_told}
-use Rattle.lis_store.proofs.Gathered.{headed, headless}
+use Rattle.lis_store.proofs.Found.{headless}
+use Rattle.lis_store.proofs.Gathered.{headed}
 use Rattle.lis_store.proofs.Told.{length-with_word}
 use Rattle.lis_laws.proofs.Closures.{with_one_axiom}
 use Rattle.lis_kept.proofs.AxiomTaken.{one_unfelt}
