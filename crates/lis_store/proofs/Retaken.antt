@@ -6,6 +6,7 @@ use Rattle.lis_store.specs.Saving.{clean, settled}
 use Rattle.lis_store.specs.ReplacingIn.{AreInForm}
 use Rattle.lis_journal.specs.Journal.{shape_of}
 use Rattle.lis_kept.specs.Image.{image_shape}
+use Rattle.lis_store.specs.declared.saving.TheConstants.{MOST_HELD}
 
 -- ---- with other taken blocks
 module _ (p : Metadata) (taken marks : List Bool) where
@@ -34,7 +35,7 @@ pub in_form : (k : Stored) → IsSound k → AreInForm k.metadata
 in_form k sound = record { sound = sound.metadata; free = sound.free; closed = sound.closed; short = sound.short; in_use = sound.in_use; tests = sound.tests }
 
 -- a store between calls
-pub sound_at : (q : Metadata) (j : Held) (b : Bool) → AreInForm q → PairsAreApart q → shape_of j ≡ image_shape q.limits → j.is_broken ≡ false → length j.staged ≤ 44 → IsTrue (are_whole j.staged) → j.placed ≡ []
+pub sound_at : (q : Metadata) (j : Held) (b : Bool) → AreInForm q → PairsAreApart q → shape_of j ≡ image_shape q.limits → j.is_broken ≡ false → length j.staged ≤ MOST_HELD → IsTrue (are_whole j.staged) → j.placed ≡ []
     → q.marks ≡ replicate (length q.marks) false → IsSound (record { metadata = q; journal = j; is_broken = b })
 sound_at q j b form pairs image unbroken few whole placed unmarked = assumption
 

@@ -18,10 +18,11 @@ use Rattle.lis_store.proofs.Standing.{stands_all_but, stands_none_but, change_st
 use Rattle.lis_journal.specs.Journal.{shape_of}
 use Rattle.lis_kept.specs.Image.{image_shape}
 use Rattle.lis_kept.proofs.Image.{same_layout, same_blocks}
+use Rattle.lis_store.specs.declared.saving.TheConstants.{MOST_HELD}
 
 -- ---- what holds of the store afterwards
 module _ (p : Metadata) (j x : Held) (settles : IsSound (settled p j)) (image : shape_of x ≡ shape_of j) where
-  pub sound_held : (q : Metadata) (b : Bool) → q ≡ clean p → x.is_broken ≡ false → length x.staged ≤ 44 → IsTrue (are_whole x.staged) → x.placed ≡ [] → IsSound (record { metadata = q; journal = x; is_broken = b })
+  pub sound_held : (q : Metadata) (b : Bool) → q ≡ clean p → x.is_broken ≡ false → length x.staged ≤ MOST_HELD → IsTrue (are_whole x.staged) → x.placed ≡ [] → IsSound (record { metadata = q; journal = x; is_broken = b })
   sound_held q b is unbroken few whole placed =
       subst (λ (k : Metadata). IsSound (record { metadata = k; journal = x; is_broken = b })) (sym is)
       (sound_at (clean p) x b (in_form (settled p j) settles) settles.pairs (image ∙ settles.image) unbroken few whole placed (settles.clean refl))

@@ -26,6 +26,7 @@ use Rattle.lis_kept.specs.Forgetting.{KeepsInUse}
 use Rattle.lis_store.specs.Stands.{Stands}
 use Rattle.lis_model.specs.Sets.{has_number}
 use Rattle.lis_kept.specs.Image.{image_layout, image_capacity, image_shape}
+use Rattle.lis_store.specs.declared.saving.TheConstants.{MOST_HELD}
 
 pub record Stored : Type 0 where
   pub metadata : Metadata
@@ -69,7 +70,7 @@ pub record IsSound (k : Stored) : Type 0 where
   pub in_use : KeepsInUse k.metadata
   pub image : shape_of k.journal ≡ image_shape k.metadata.limits
   pub journal : k.is_broken ≡ false → k.journal.is_broken ≡ false
-  pub few : k.is_broken ≡ false → length k.journal.staged ≤ 44
+  pub few : k.is_broken ≡ false → length k.journal.staged ≤ MOST_HELD
   pub whole : k.is_broken ≡ false → IsTrue (are_whole k.journal.staged)
   pub placed : k.is_broken ≡ false → k.journal.placed ≡ []
   pub clean : k.is_broken ≡ false → k.metadata.marks ≡ replicate (length k.metadata.marks) false

@@ -21,7 +21,7 @@ pub(crate) const MOST_HELD: u32 = 44;
 /// The most blocks that are held back after a change with this content: none if the content is large, since it is placed.
 pub(crate) fn most_held(payload: &[u8]) -> u32
     requires { length payload.now ≤ MAX_PAYLOAD }
-    ensures few { result ≤ 44 }
+    ensures few { result ≤ MOST_HELD }
     ensures large { 0 < result → is_large (length payload.now) ≡ false }
 {
     if is_large(payload.len() as u32) {
@@ -55,7 +55,7 @@ impl Memory {
         requires ready { MayBeSaved (stored self.old) }
         requires usable { IsUsable (stored self.old) (D.meaning disk.old) }
         requires unplaced { 0 < most → self.old.journal.placed ≡ [] }
-        requires few { most ≤ 44 }
+        requires few { most ≤ MOST_HELD }
         ensures saved { SaveKeeps (stored self.old) (stored self.new) result }
         ensures saves { Saves self.old.metadata self.old.journal (stored self.new) (D.meaning disk.old) (D.meaning disk.new) result }
         ensures few { OnOk result (length self.new.journal.staged ≤ most) }
