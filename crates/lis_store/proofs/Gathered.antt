@@ -1,6 +1,6 @@
 -- Words without numbers that are noted one after another, with their heads.
 use Rattle.std.proofs.Common.{rules}
-use Rattle.lis_store.proofs.Common.{◌≡◌, refl, sym, ap, ◌∙◌, subst, ℕ, ◌+◌, ◌*◌, ◌<◌, ◌≤◌, Bool, true, false, ◌&&◌, ◌||◌, cond, is_none, Option, Some, List, [], ◌∷◌, ◌++◌, length, take, get_or, arith, length-append, or-false, list_any-append, number_of, word_of, number_from_word, number_below, same_word, has_word, is_valued, head_bytes, same_word_decides, heads, Metadata, AreSound, false_from_ne_true}
+use Rattle.lis_store.proofs.Common.{◌≡◌, refl, sym, ap, ◌∙◌, subst, ℕ, ◌+◌, ◌*◌, ◌<◌, ◌≤◌, Bool, true, false, ◌&&◌, ◌||◌, cond, is_none, Option, Some, List, [], ◌∷◌, ◌++◌, length, take, get_or, arith, length-append, or-false, list_any-append, number_of, word_of, number_from_word, number_below, same_word, has_word, is_valued, head_bytes, same_word_decides, heads, Metadata, AreSound}
 use Rattle.lis_model.proofs.NotedLemmas.{are_distinct-push}
 use Rattle.lis_laws.proofs.Few.{heads_le}
 use Rattle.lis_store.specs.Describing.{with_heads, Notes}

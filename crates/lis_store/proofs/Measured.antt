@@ -1,12 +1,10 @@
 -- How many words the description of a new file has, and how many of them are not known yet.
 use Rattle.std.proofs.Common.{rules}
-use Rattle.lis_store.proofs.Common.{◌≡◌, ◌⊎◌, refl, sym, ap, ap₂, ◌∙◌, subst, inl, inr, ℕ, zero, suc, ◌+◌, ◌<◌, ◌≤◌, Bool, true, false, not, ◌&&◌, ◌||◌, is_some, is_none, Option, Some, None, option_to_list, IsSome, List, [], ◌∷◌, ◌++◌, length, arith, flat_map, nat_cmp, nat_cmp_total, tied_itself, Ordering, IsStrictlySortedBy, and-true, and-false, or-false, and_parts, not-true, none-some, Among, among_from_contains, among_flat_map, below_tail, sorted_tail, number_of, word_of, number_from_word, word_from_number, word_cmp, has_word, is_valued, head_bytes, with_words, heads, up, all_up, met_tests, word_exact, among_from_has_word, among_with_words, with_words_new, sorted_with_words, sorted_set_of, head_not_valued, among_heads, up_self, entails_from_up, up_from_entails, Head, Weaker, entailing, sorted_all_up, Metadata, AreSound, declared_of, axioms_of, among_where, where_among, sorted_where, among_axiom, declared_has_number, word_among, among_word, some_word, both_ways, false_from_ne_true, Chain, flat_map_among, links, has_word_from_among, with_words_old, same_words, OwnLink, up_trans, entailed_in, same_tests, words_told, among_from_number, number_from_among, one_number, only_word}
+use Rattle.lis_store.proofs.Common.{◌≡◌, ◌⊎◌, refl, sym, ap, ap₂, ◌∙◌, subst, inl, inr, ℕ, ◌+◌, ◌<◌, ◌≤◌, Bool, true, false, not, ◌&&◌, ◌||◌, is_some, is_none, Option, Some, None, option_to_list, IsSome, List, [], ◌∷◌, ◌++◌, length, arith, flat_map, nat_cmp, nat_cmp_total, tied_itself, Ordering, IsStrictlySortedBy, and-true, and-false, or-false, and_parts, not-true, none-some, Among, among_flat_map, below_tail, sorted_tail, number_of, word_of, number_from_word, word_from_number, word_cmp, has_word, with_words, heads, up, all_up, met_tests, word_exact, among_from_has_word, among_with_words, with_words_new, sorted_with_words, sorted_set_of, up_self, entailing, sorted_all_up, Metadata, AreSound, declared_of, axioms_of, among_where, where_among, sorted_where, word_among, among_word, some_word, both_ways, false_from_ne_true, flat_map_among, has_word_from_among, with_words_old, same_words, entailed_in, same_tests, words_told, among_from_number, number_from_among, one_number, only_word}
 use Rattle.lis_ext.specs.Numbers.{numbers_where}
 use Rattle.std.specs.Cmp.{IsTotalOrder}
-use Rattle.lis_graph.specs.Graph.{Linked}
 use Rattle.lis_taxonomy.specs.Search.{is_found}
 use Rattle.lis_model.specs.Noted.{are_distinct_words}
-use Rattle.lis_laws.proofs.Chains.{heads_of_valued, own_link, links_head, up_own}
 use Rattle.lis_kept.proofs.Described.{few_where}
 use Rattle.lis_store.specs.Drafts.{Draft}
 use Rattle.lis_store.specs.Admitting.{described_words, described_by}
