@@ -5,14 +5,16 @@ import textwrap
 from typing import NamedTuple
 
 from lisfs.constants import (
-    ALREADY_DECLARED, AXIOM_THERE, BAD_FORMULA, BUILT_IN, CYCLE, IN_USE, LARGE_DESCRIPTION, LARGE_FILE, LARGE_FORMULA, NAME_TAKEN, NO_AXIOM,
-    NO_AXIOM_ROOM, NO_FILE_HERE, NO_FILE_ROOM, NO_PROPERTY_ROOM, NO_SPACE, NOT_A_PLACE, NOT_ASSIGNABLE, NOT_DECLARED, TOO_MANY_ASSIGNED,
-    UNKNOWN_PROPERTY)
+    ALREADY_DECLARED, AXIOM_THERE, BAD_FORMULA, BUILT_IN, CYCLE, IN_USE, LARGE_DESCRIPTION, LARGE_FILE, LARGE_FORMULA, MAX_ASSIGNED, MAX_FILES,
+    MAX_LINE, MAX_WORD, NAME_TAKEN, NO_AXIOM, NO_AXIOM_ROOM, NO_FILE_HERE, NO_FILE_ROOM, NO_PROPERTY_ROOM, NO_SPACE, NOT_A_PLACE, NOT_ASSIGNABLE,
+    NOT_DECLARED, TOO_MANY_ASSIGNED, UNKNOWN_PROPERTY)
 from lisfs.refusals import meaning
 from lisfs.shell.undoing import UNDOABLE
 
 # So many words of a head a listing shows on a terminal, and so many files are changed at once before somebody is asked.
 SOME, ASKED = 20, 20
+# A line of `tag` and `untag` may name all files of an image, and as many words as a file is given. The shell makes commands of it.
+LONGEST = (1 + MAX_FILES + MAX_ASSIGNED) * (MAX_WORD + 1)
 
 
 class Part(enum.Enum):
@@ -136,6 +138,11 @@ COMMANDS = {
 }
 # Those that the program does not know.
 OWN = ("find", "grep", "less", "put", "get", "tag", "untag", "undo", "help", "exit", "quit")
+
+
+def most_of_line(command: bytes) -> int:
+    """How many bytes a line of a command has at most."""
+    return LONGEST if command in (b"tag", b"untag") else MAX_LINE
 
 
 def all_in_lines() -> list[str]:

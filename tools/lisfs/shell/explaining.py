@@ -9,10 +9,10 @@ from typing import TypeAlias
 
 from lisfs import constants
 from lisfs.client import Refused, words_of
-from lisfs.constants import MAX_ASSIGNED, MAX_DESCRIPTION, MAX_DIGITS, MAX_FORMULA, MAX_LINE, MAX_NODES, MAX_PAYLOAD
+from lisfs.constants import MAX_ASSIGNED, MAX_DESCRIPTION, MAX_DIGITS, MAX_FORMULA, MAX_NODES, MAX_PAYLOAD
 from lisfs.formulas import words_in
 from lisfs.refusals import meaning
-from lisfs.shell.commands import COMMANDS, FILES, WORDS, Part
+from lisfs.shell.commands import COMMANDS, FILES, WORDS, Part, most_of_line
 from lisfs.shell.session import Session
 from lisfs.showing import harmless
 from lisfs.words import NAME_FORM, head_of, is_built_in, is_file_name, is_head, is_plain, is_test, is_word
@@ -67,7 +67,7 @@ def bad_line(command: str, given: Words, _: object) -> str:
 
 
 def long_line(command: str, given: Words, session: Session) -> str:
-    return f"{harmless(command.encode())[:60]}: the line has more than {MAX_LINE:,} bytes"
+    return f"{harmless(command.encode())[:60]}: the line has more than {most_of_line(command.encode()):,} bytes"
 
 
 def cut_payload(command: str, given: Words, session: Session) -> str:

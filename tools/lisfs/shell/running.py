@@ -11,7 +11,7 @@ from lisfs import derived
 from lisfs.client import CONTENT, LINES, Item, Items, NotSent, Refused, Reply, words_of
 from lisfs.constants import MAX_LINE, MAX_PAYLOAD
 from lisfs.formulas import words_in
-from lisfs.shell.commands import COMMANDS, all_in_lines, told
+from lisfs.shell.commands import COMMANDS, LONGEST, all_in_lines, most_of_line, told
 from lisfs.shell.explaining import Failed, bad_line, sentence
 from lisfs.shell.looking import Looking
 from lisfs.shell.session import Session
@@ -59,7 +59,7 @@ class Shell:
         self.interrupts.ask()
 
     def run(self, line: bytes, words: list[bytes], payload: bytes) -> None:
-        is_short = len(line) <= MAX_LINE
+        is_short = len(line) <= most_of_line(words[0])
         if words[0] == b"ls" and is_short and (len(words) > 1 or self.screen.asks):
             self.looking.ls(words[1:])
         elif words[0] in self.own and is_short:
@@ -263,7 +263,7 @@ def from_input() -> bytes:
 
 def commands(read: Callable[[], bytes], interrupts: Interrupts) -> Iterator[Item | None]:
     """The commands of what is read, each a line without its line feed and the bytes behind it, and at last `None` where these are cut off."""
-    items = Items(MAX_LINE)
+    items = Items(MAX_LINE, LONGEST)
     data: bytes | None = None
     # A last line, and last bytes, may lack their line feed.
     while data != b"" or items.lacks_feed():

@@ -5,8 +5,8 @@ import contextlib
 from collections.abc import Iterator, Sequence
 from typing import NamedTuple
 
-from lisfs.client import Refused, Retag, Retagged, gains_of, losses_of
-from lisfs.constants import LARGE_DESCRIPTION, NOT_ASSIGNABLE, REFUSAL_WORDS, TOO_MANY_ASSIGNED, UNKNOWN_PROPERTY
+from lisfs.client import Refused, Retag, Retagged, counts_in, gains_of, losses_of
+from lisfs.constants import BUILT_IN, LARGE_DESCRIPTION, MAX_ASSIGNED, NO_PROPERTY_ROOM, NOT_ASSIGNABLE, REFUSAL_WORDS, TOO_MANY_ASSIGNED, UNKNOWN_PROPERTY
 from lisfs.index import File
 from lisfs.shell.commands import ASKED
 from lisfs.shell.explaining import Failed, bad_line, said, sentence
@@ -14,7 +14,7 @@ from lisfs.shell.looking import elsewhere
 from lisfs.shell.session import NothingKept, NoWayBack, Session
 from lisfs.shell.terminal import Screen
 from lisfs.shell.undoing import moving
-from lisfs.words import is_test, is_word
+from lisfs.words import is_built_in, is_head, is_test, is_word
 
 # So many refusals of one command are shown.
 SHOWN = 5
@@ -38,7 +38,12 @@ class Tagging:
 
     def tag(self, line: bytes, given: Sequence[bytes]) -> None:
         files, words = self.wanted("tag", given)
-        self.change(line, gains_of({file.name: file.given for file in files}, words), len(files), f"give {said(*words)} to")
+        self.judge(words)
+        changes = gains_of({file.name: file.given for file in files}, words)
+        fitting = [change for change in changes if len(self.session.index.files[change.name].given) + len(change.gains) <= MAX_ASSIGNED]
+        if fitting:
+            self.judge_room(words)
+        self.change(line, changes, len(files), f"give {said(*words)} to", len(fitting))
 
     def untag(self, line: bytes, given: Sequence[bytes]) -> None:
         files, words = self.wanted("untag", given)
@@ -46,7 +51,8 @@ class Tagging:
         for word in words:
             if word not in known:
                 raise Failed(sentence(refusal_of(UNKNOWN_PROPERTY), b"cd " + word, self.session))
-        self.change(line, losses_of({file.name: file.given for file in files}, words), len(files), f"take {said(*words)} from")
+        changes = losses_of({file.name: file.given for file in files}, words)
+        self.change(line, changes, len(files), f"take {said(*words)} from", len(changes))
         self.session.described()
         if still := sum(not file.words.isdisjoint(words) for file in files):
             self.screen.lines([f"{said(*words)}: {of_files(still)} kept it: another word entails it, or the file has it on its own"])
@@ -59,7 +65,7 @@ class Tagging:
             with elsewhere(self.session, command, given[2]):
                 files = self.session.files()
         else:
-            names = [word for word in dict.fromkeys(given) if self.session.is_here(word)]
+            names = {word: None for word in dict.fromkeys(given) if self.session.is_here(word)}
             words = [word for word in dict.fromkeys(given) if word not in names]
             files = [self.session.index.files[name] for name in names]
             if not files or not words:
@@ -71,6 +77,23 @@ class Tagging:
                 raise Failed(bad_line("create", [b"x", word], self.session))
         return Wanted(files, words)
 
+    def judge(self, words: Sequence[bytes]) -> None:
+        """Refuses words that no file is given, by the sentence of the program's refusal, so that nobody is asked in vain."""
+        for word in words:
+            if is_built_in(word):
+                raise Failed(sentence(refusal_of(BUILT_IN), b"mv x /" + word, self.session))
+            if is_head(word):
+                raise Failed(sentence(refusal_of(NOT_ASSIGNABLE), b"mv x /" + word, self.session))
+            if not self.session.is_assignable(word):
+                raise Failed(sentence(refusal_of(UNKNOWN_PROPERTY), b"mv x /" + word, self.session))
+
+    def judge_room(self, words: Sequence[bytes]) -> None:
+        """The same if the image has no room for those of the words that are new."""
+        known = self.session.known()
+        new = [word for word in words if word not in known]
+        if new and counts_in(self.session.program.stat().body)["known"] + len(new) > self.session.limits.words:
+            raise Failed(sentence(refusal_of(NO_PROPERTY_ROOM), b"tag " + new[0], self.session))
+
     def lacking(self, command: str, given: Sequence[bytes], has_files: bool) -> str:
         usage = f"usage: {command} FILE.. WORD.., or {command} WORD in FORMULA"
         if not given:
@@ -79,9 +102,9 @@ class Tagging:
             return f"{said(*given)}: no word is among these, since each is the name of a file here: {usage}"
         return f"{said(*given)}: no file of this place is among these: {usage}"
 
-    def change(self, line: bytes, changes: Sequence[Retag], count: int, question: str) -> None:
-        """Makes changes, out of so many files."""
-        if len(changes) > ASKED and self.screen.asks and not self.screen.says_yes(f"{question} {of_files(len(changes))}?"):
+    def change(self, line: bytes, changes: Sequence[Retag], count: int, question: str, fitting: int) -> None:
+        """Makes changes, out of so many files, of which so many have room for it."""
+        if fitting > ASKED and self.screen.asks and not self.screen.says_yes(f"{question} {of_files(fitting)}?"):
             raise Failed("nothing was changed")
         with self.staying(said(line.split()[0])):
             found = self.session.retag(line, changes, self.goes_on)
