@@ -98,7 +98,8 @@ COMMANDS = {
                         "here already, it gets the bytes and keeps its words, if you say yes, or -w. Quotes, and `\\` before a blank, are as in "
                         "other shells."),
     "get": command("get NAME [FILE]", "writes a file's bytes to a file of the system", Part.FILE, Part.PATH, needed=1, refusals=(NO_FILE_HERE,),
-                   more="FILE may be a folder; without it NAME is taken. A file that is there is not written over, unless you say yes."),
+                   more="FILE may be a folder; without it NAME is taken. `get in FORMULA FOLDER` copies all files of a place to a folder. A file that "
+                        "is there is not written over, unless you say yes."),
     "create": command("create NAME WORD..", "makes an empty file", Part.NEW_FILE, Part.GIVEN, needed=1, repeats=True, refusals=CREATES,
                       more="It has these words and those of the place."),
     "add": command("add NAME N WORD..", "makes a file of the N bytes that follow", Part.NEW_FILE, Part.COUNT, Part.GIVEN, needed=2, repeats=True,

@@ -33,6 +33,10 @@ def said(*words: bytes) -> str:
     return ", ".join(map(harmless, words))
 
 
+def of_files(count: int) -> str:
+    return "1 file" if count == 1 else f"{count:,} files"
+
+
 def meant(word: bytes, among: Iterable[bytes]) -> str:
     """A question for the word that may have been meant."""
     near = difflib.get_close_matches(harmless(word), map(harmless, among), 1, 0.75)

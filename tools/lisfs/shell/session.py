@@ -336,7 +336,7 @@ class Session(Following[File]):
         return self.index.of(self.row())
 
     def contents(self, files: Iterable[File]) -> Iterator[tuple[File, bytes]]:
-        """Files of the place with their bytes, many asked for at once."""
+        """Files of the place with their bytes, many asked for at once; without those that another client has just removed."""
         some: list[File] = []
         for file in (*files, None):
             if some and (file is None or len(some) == AHEAD or sum(one.size for one in some) > AHEAD_BYTES):
@@ -344,10 +344,19 @@ class Session(Following[File]):
                 for one in some:
                     self.program.send(b"cat", one.name)
                 # All of them are received before anybody else can send something.
-                yield from zip(some, [as_content(self.program.receive()).body for _ in some])
+                received = [(one, self._received_content()) for one in some]
+                yield from ((one, content) for one, content in received if content is not None)
                 some = []
             if file:
                 some.append(file)
+
+    def _received_content(self) -> bytes | None:
+        try:
+            return as_content(self.program.receive()).body
+        except Refused:
+            if self.program.is_shared:
+                return None
+            raise
 
     def names_here(self, beginning: bytes = b"") -> list[bytes]:
         """The names of the files of the place that begin so."""

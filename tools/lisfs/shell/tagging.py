@@ -9,7 +9,7 @@ from lisfs.client import Refused, Retag, Retagged, counts_in, gains_of, losses_o
 from lisfs.constants import BUILT_IN, LARGE_DESCRIPTION, MAX_ASSIGNED, NO_PROPERTY_ROOM, NOT_ASSIGNABLE, REFUSAL_WORDS, TOO_MANY_ASSIGNED, UNKNOWN_PROPERTY
 from lisfs.index import File
 from lisfs.shell.commands import ASKED
-from lisfs.shell.explaining import Failed, bad_line, said, sentence
+from lisfs.shell.explaining import Failed, bad_line, of_files, said, sentence
 from lisfs.shell.looking import elsewhere
 from lisfs.shell.session import NothingKept, NoWayBack, Session
 from lisfs.shell.terminal import Screen
@@ -165,10 +165,6 @@ class Tagging:
         finally:
             if self.session.place != place:
                 self.screen.note(f"{said(place)}: a word of this place is not known any more, so the place is / now")
-
-
-def of_files(count: int) -> str:
-    return "1 file" if count == 1 else f"{count:,} files"
 
 
 def refusal_of(number: int) -> Refused:
