@@ -17,6 +17,8 @@ from lisfs.words import TEST, WORD, is_test
 PART_LIMIT = 255
 # What is between the words of a formula.
 SIGNS = re.compile(rb"[/|!()]")
+# After and before which no sign is missing.
+SIGN_BEFORE, SIGN_BEHIND = b"/|!(", b"/|)"
 
 
 def words_in(formula: bytes) -> list[bytes]:
@@ -51,6 +53,19 @@ class Rows(Protocol):
     def having(self, word: bytes) -> int: ...
 
     def where(self, is_so: Callable[[Described], bool]) -> int: ...
+
+
+def joined(words: Iterable[bytes]) -> bytes | None:
+    """The formula that was meant by words with blanks between them, with `/` between those that no sign joins; None if that is none."""
+    text = b""
+    for word in words:
+        is_apart = text and text[-1:] not in SIGN_BEFORE and word[:1] not in SIGN_BEHIND
+        text += b"/" + word if is_apart else word
+    try:
+        formula(text.removeprefix(b"/"))
+    except NotAFormula:
+        return None
+    return text
 
 
 class Formula(Protocol):

@@ -93,6 +93,13 @@ def test_words_of_listings(copied, listings):
 
 # Where links lead, and what lists show.
 
+@pytest.mark.parametrize("typed, wanted", ((b"music live", "music/live"), (b"music | ! live", "music|!live"), (b"/music year: ", "/music/year:")))
+def test_a_formula_with_blanks(visitor, typed, wanted):
+    seen = visitor.page(at=typed, status=404)
+    assert f"Did you mean {wanted}?" in seen.text and leads(seen, wanted) == f"./?at={wanted}"
+
+
+
 @pytest.fixture(scope="module")
 def visitor(web_mixed, listings):
     """Who asks for pages of the image, after who had it alone."""

@@ -41,13 +41,13 @@ def test_all_files_of_a_place(letters):
 def test_what_leads_nowhere(letters):
     written("file", b"x")
     usage = "usage: get NAME [FILE]"
-    assert shell(b"get in nosuch out\nget in a//b out\nget in old nosuch\nget in old file\nget in 'a b' out\nget in old\nget in a b c\nget\n") == (1, b"", "".join(
+    assert shell(b"get in nosuch out\nget in a//b out\nget in old nosuch\nget in old file\nget in 'a b' out\nget in old\nget in a b c\nget a b c\nget\n") == (1, b"", "".join(
         f"shell: {told}\n" for told in (
             "nosuch: this word is not known; `mkdir nosuch` declares it",
             "a//b: no formula: words with `/` (and), `|` (or), `!` (not) and parentheses, without blanks",
             "nosuch: no such folder: make it first", "file: no such folder: make it first",
-            "a b: no formula: words with `/` (and), `|` (or), `!` (not) and parentheses, without blanks",
-            "in: there is no file of this name", f"get: {usage}", f"get: {usage}")))
+            "a b: a formula has no blanks, and `/` joins its words: `a/b`", "in: there is no file of this name",
+            "get: a formula has no blanks, and `/` joins its words: `get in a/b c`", f"get: {usage}", f"get: {usage}")))
     assert copied() == {}
 
 

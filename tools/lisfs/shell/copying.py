@@ -13,7 +13,7 @@ from lisfs.client import Ended, NotAReply, Refused
 from lisfs.constants import MAX_PAYLOAD
 from lisfs.index import File
 from lisfs.shell.commands import COMMANDS
-from lisfs.shell.explaining import Failed, bad_line, of_files, said, sentence
+from lisfs.shell.explaining import Failed, bad_line, of_files, said, sentence, with_blanks
 from lisfs.shell.looking import elsewhere
 from lisfs.shell.session import Session
 from lisfs.shell.terminal import Screen, Stopped
@@ -78,6 +78,8 @@ class Copying:
         if len(words) == 3 and words[0] == b"in":
             self.get_all(words[1], words[2])
             return
+        if words[:1] == [b"in"] and len(words) > 3 and (told := with_blanks("get", words, 1, 1)):
+            raise Failed(told)
         if not 1 <= len(words) <= 2:
             wrong("get")
         if not is_file_name(words[0]):

@@ -4,6 +4,7 @@ The program tells a number. Which of several words is meant is found out here, b
 it can't be, the sentence names the line's own words.
 """
 import difflib
+import shlex
 from collections.abc import Callable, Iterable
 from typing import TypeAlias
 
@@ -11,7 +12,7 @@ from lisfs import constants
 from lisfs.client import Refused, words_of
 from lisfs.constants import MAX_ASSIGNED, MAX_DESCRIPTION, MAX_DIGITS, MAX_FORMULA, MAX_NODES, MAX_PAYLOAD
 from lisfs.formulas import words_in
-from lisfs.refusals import meaning
+from lisfs.refusals import meaning, without_blanks
 from lisfs.shell.commands import COMMANDS, FILES, WORDS, Part, most_of_line
 from lisfs.shell.session import Session
 from lisfs.showing import harmless
@@ -58,7 +59,8 @@ def bad_line(command: str, given: Words, _: object) -> str:
         return f"{harmless(command.encode())}: there is no such command{near or '; `help` lists all'}"
     form, parts = COMMANDS[command], COMMANDS[command].parts
     if len(given) > len(parts) and not form.repeats:
-        return f"{harmless(given[len(parts)])}: one word too many: usage: {form.form}"
+        told = with_blanks(command, given, len(parts) - 1) if parts[-1:] == (Part.FORMULA,) else None
+        return told or f"{harmless(given[len(parts)])}: one word too many: usage: {form.form}"
     if len(given) >= form.needed:
         for word, part in zip(given, parts + parts[-1:] * len(given)):
             if part in FILES and not is_file_name(word):
@@ -68,6 +70,15 @@ def bad_line(command: str, given: Words, _: object) -> str:
             if part in WORDS and not is_word(word) and not is_test(word):
                 return f"{harmless(word)}: no word: `music`, `year:`, `year:2003` or a test, as `size>=1000`; a part has {NAME_FORM}"
     return f"{command}: usage: {form.form}"
+
+
+def with_blanks(command: str, given: Words, at: int, behind: int = 0) -> str | None:
+    """A sentence for a line whose formula begins at this word and has blanks, with so many words behind it; None if they make none."""
+    end = len(given) - behind
+    before, after = ([shlex.quote(harmless(word)) for word in words] for words in (given[:at], given[end:]))
+    told = without_blanks(given[at:end], " ".join([command, *before, ""]), " ".join(["", *after]))
+    # Of `grep` the text may be what has blanks.
+    return told and f"{command}: {'a text with blanks stands in quotes; ' if command == 'grep' else ''}{told}"
 
 
 def long_line(command: str, given: Words, session: Session) -> str:
@@ -83,7 +94,8 @@ def payload_end(command: str, given: Words, session: Session) -> str:
 
 
 def formula(command: str, given: Words, session: Session) -> str:
-    return f"{said(given[-1])}: no formula: words with `/` (and), `|` (or), `!` (not) and parentheses, without blanks"
+    told = without_blanks(given[-1].split())
+    return f"{said(given[-1])}: {told or 'no formula: words with `/` (and), `|` (or), `!` (not) and parentheses, without blanks'}"
 
 
 def unknown(command: str, given: Words, session: Session) -> str:

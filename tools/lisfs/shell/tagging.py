@@ -9,7 +9,7 @@ from lisfs.client import Refused, Retag, Retagged, counts_in, gains_of, losses_o
 from lisfs.constants import BUILT_IN, LARGE_DESCRIPTION, MAX_ASSIGNED, NO_PROPERTY_ROOM, NOT_ASSIGNABLE, REFUSAL_WORDS, TOO_MANY_ASSIGNED, UNKNOWN_PROPERTY
 from lisfs.index import File
 from lisfs.shell.commands import ASKED
-from lisfs.shell.explaining import Failed, bad_line, of_files, said, sentence
+from lisfs.shell.explaining import Failed, bad_line, of_files, said, sentence, with_blanks
 from lisfs.shell.looking import elsewhere
 from lisfs.shell.session import NothingKept, NoWayBack, Session
 from lisfs.shell.terminal import Screen
@@ -96,6 +96,8 @@ class Tagging:
 
     def lacking(self, command: str, given: Sequence[bytes], has_files: bool) -> str:
         usage = f"usage: {command} FILE.. WORD.., or {command} WORD in FORMULA"
+        if given[1:2] == [b"in"] and len(given) > 3 and (told := with_blanks(command, list(given), 2)):
+            return told
         if not given:
             return f"{command}: {usage}"
         if has_files:

@@ -7,6 +7,7 @@ from typing import NamedTuple
 from lisfs import derived
 from lisfs.client import Retagged
 from lisfs.constants import MAX_FORMULA
+from lisfs.formulas import joined as joined_words
 from lisfs.formulas import words_in
 from lisfs.index import File
 from lisfs.listings import TITLES, groups_of, within
@@ -180,7 +181,9 @@ class Pages:
                       derived.told_of_left_out(filter(self.image.is_assignable, words), ((file.given, file.words) for file in files)))
 
     def wrong_place(self, typed: bytes, sentence: str) -> str:
-        return self.whole("wrong_place.html", "No such place", typed=typed, sentence=sentence, missing=self.missing(words_in(typed)))
+        meant = joined_words(typed.split()) if b" " in typed else None
+        return self.whole("wrong_place.html", "No such place", typed=typed, sentence=sentence, meant=[meant] if meant else [],
+                          missing=self.missing(words_in(typed)))
 
     # A place.
 
