@@ -7,7 +7,7 @@ from __future__ import annotations
 
 import functools
 import re
-from collections.abc import Callable, Iterable, Set
+from collections.abc import Callable, Iterable, Sequence, Set
 from typing import Protocol
 
 from lisfs.constants import MAX_FORMULA, MAX_NODES, MAX_WORD
@@ -17,6 +17,7 @@ from lisfs.words import TEST, WORD, is_test
 PART_LIMIT = 255
 # What is between the words of a formula.
 SIGNS = re.compile(rb"[/|!()]")
+PIECES = re.compile(rb"([/|!()])")
 # After and before which no sign is missing.
 SIGN_BEFORE, SIGN_BEHIND = b"/|!(", b"/|)"
 
@@ -55,8 +56,15 @@ class Rows(Protocol):
     def where(self, is_so: Callable[[Described], bool]) -> int: ...
 
 
-def joined(words: Iterable[bytes]) -> bytes | None:
-    """The formula that was meant by words with blanks between them, with `/` between those that no sign joins; None if that is none."""
+def replaced(text: bytes, word: bytes, other: bytes) -> bytes:
+    """The text of a formula with another word instead of one."""
+    return b"".join(other if piece == word else piece for piece in PIECES.split(text))
+
+
+def joined(words: Sequence[bytes]) -> bytes | None:
+    """The formula that was meant by several words with blanks between them, with `/` between those that no sign joins; None if that is none."""
+    if len(words) < 2:
+        return None
     text = b""
     for word in words:
         is_apart = text and text[-1:] not in SIGN_BEFORE and word[:1] not in SIGN_BEHIND

@@ -146,6 +146,8 @@ def sentence(number: int, command: str | None = None) -> str:
             or f"The program refuses it, by number {number}.")
 
 
+# So many words are named that may have been meant.
+MEANT = 5
 # So many words after these commands are names of files, and so many more are no words of files.
 NAMES = {"create": 1, "add": 1, "write": 1, "cat": 1, "mv": 1, "rename": 2, "rm": 1, "props": 1, "way": 1}
 OTHERS = {"add": 1, "write": 1}
@@ -205,7 +207,7 @@ def sentence_about(number: int, command: str | None, words: Sequence[bytes]) -> 
 
 def without_blanks(words: Sequence[bytes], before: str = "", behind: str = "") -> str | None:
     """What is wrong with several words instead of one formula, and which one was meant, between texts of its line; None if they make none."""
-    found = joined(words) if len(words) > 1 else None
+    found = joined(words)
     return f"a formula has no blanks, and `/` joins its words: `{before}{said([found])}{behind}`" if found else None
 
 

@@ -107,6 +107,16 @@ def visitor(web_mixed, listings):
         yield Visitor(browsed)
 
 
+@pytest.mark.parametrize("typed, meant", (
+    (b"music/subject:pla", ["music/subject:plan"]), (b"!year:/subject:PLA", ["!year:/subject:plan"]),
+    (b"subject:number", [f"subject:number{number}" for number in (0, 1, 10, 11, 12)]), (b"subject:nosuch", []), (b"nosuch", [])))
+def test_values_that_begin_so(visitor, typed, meant):
+    """A value that no file has leads to those that begin so, five at most."""
+    seen = visitor.page(at=typed, status=404)
+    assert [label for _, label, _ in seen.links if label.startswith(("music/", "!", "subject:"))] == meant
+    assert all(leads(seen, formula) == f"./?at={formula}" for formula in meant) and ("Did you mean" in seen.text) == bool(meant)
+
+
 @pytest.mark.parametrize("label, wanted", (
     ("Take out live", "./?at=/music/year:/!size:small"), ("Take out year:", "./?at=/(live|music)/!size:small"),
     ("Negate music", "./?at=/(live|!music)/year:/!size:small"), ("Without not: size:small", "./?at=/(live|music)/year:/size:small"),

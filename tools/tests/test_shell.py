@@ -373,6 +373,27 @@ def test_a_search_that_can_miss_a_file(program):
     assert status == 1 and said.startswith(f"shell: {MISSES.format('w190')}\n"), ("one that finds none for this", (status, shown, said))
 
 
+def test_values_that_begin_so(program):
+    """A value that no file has: those that begin so are named, the most frequent first, or else one that is near."""
+    make(limits=("64", "128", "64"), script=b"mkdir year:\nmkdir music\n" + b"".join(
+        b"add m%d.eml %d year:20%02d\n%b\n" % (number, len(mail), number, mail) for number, mail in enumerate(
+            b"From: ann@example.org\nSubject: w%d\n\n" % number for number in range(3)))
+        + b"add n.eml 25\nFrom: anna@b.example.org\n\n\ncreate song year:2007 music\ncreate other year:2007\n"
+        + b"".join(b"create f%d year:19%d\n" % (number, number) for number in range(10, 18)))
+    nothing = "no file has it"
+    rows = (("find from:ann", f"from:ann: {nothing}; did you mean `from:ann@example.org`, `from:anna@b.example.org`?"),
+            ("cd from:ANNA", f"from:ANNA: {nothing}; did you mean `from:anna@b.example.org`?"),
+            ("ls music/!year:20", f"year:20: {nothing}; did you mean `year:2007`, `year:2000`, `year:2001`, `year:2002`?"),
+            ("grep x year:19", f"year:19: {nothing}; did you mean `year:1910`, `year:1911`, `year:1912`, `year:1913`, `year:1914`, ..?"),
+            ("untag song year:200", f"year:200: {nothing}; did you mean `year:2007`, `year:2000`, `year:2001`, `year:2002`?"),
+            ("tag music in from:ann@exmaple.org", f"from:ann@exmaple.org: {nothing}; is it `from:ann@example.org`?"),
+            ("find to:bob", f"to:bob: {nothing}"), ("find to:bob/year:3/from:ann", "to:bob, year:3, from:ann: no file has them; did you mean "
+                                                     "`from:ann@example.org`, `from:anna@b.example.org`?"))
+    with within() as answer:
+        for line, told in rows:
+            assert answer(line.encode() + b"\n") == (1, b"", f"shell: {told}\n"), line
+
+
 BACK = "shell: find: there is no way back to this place, which is too long or has a word that nothing has any more: " \
        "say a formula that goes on from here, or `cd` elsewhere first\n"
 

@@ -12,7 +12,7 @@ from lisfs import constants
 from lisfs.client import Refused, words_of
 from lisfs.constants import MAX_ASSIGNED, MAX_DESCRIPTION, MAX_DIGITS, MAX_FORMULA, MAX_NODES, MAX_PAYLOAD
 from lisfs.formulas import words_in
-from lisfs.refusals import meaning, without_blanks
+from lisfs.refusals import MEANT, meaning, without_blanks
 from lisfs.shell.commands import COMMANDS, FILES, WORDS, Part, most_of_line
 from lisfs.shell.session import Session
 from lisfs.showing import harmless
@@ -42,6 +42,15 @@ def meant(word: bytes, among: Iterable[bytes]) -> str:
     """A question for the word that may have been meant."""
     near = difflib.get_close_matches(harmless(word), map(harmless, among), 1, 0.75)
     return f"; is it `{near[0]}`?" if near else ""
+
+
+def values_meant(words: Words, session: Session) -> str:
+    """A question for the values that may have been meant: those that begin as a word does, or else one that is near."""
+    for word in words:
+        if found := session.beginning(word):
+            named = ", ".join(f"`{harmless(value)}`" for value in found[:MEANT])
+            return f"; did you mean {named}{', ..' if len(found) > MEANT else ''}?"
+    return meant(words[0], [value for value in session.known() if head_of(value) == head_of(words[0])])
 
 
 def sentence(refused: Refused, line: bytes, session: Session) -> str:
@@ -115,7 +124,7 @@ def unknown(command: str, given: Words, session: Session) -> str:
     first = words[0]
     is_value = not is_plain(first) and not is_head(first) and not is_test(first)
     if is_built_in(first) or is_value and head_of(first) in session.declared:
-        return f"{said(*words)}: no file has it"
+        return f"{said(*words)}: no file has {'it' if len(words) == 1 else 'them'}{values_meant(words, session)}"
     needed = is_value and head_of(first) or first
     if first in session.names:
         return f"{said(first)}: this is the name of a file, and no word"

@@ -405,6 +405,11 @@ class Session(Following[File]):
         self._refresh()
         return self.index.files.values()
 
+    def beginning(self, word: bytes) -> list[bytes]:
+        """The words of files that begin as this one does, the most frequent first."""
+        self._refresh()
+        return self.index.beginning(word)
+
     def is_assignable(self, word: bytes) -> bool:
         """Whether a file may be given this word."""
         return is_plain(word) and word in self.declared or head_of(word) in self.declared and word not in self.declared

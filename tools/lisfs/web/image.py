@@ -16,7 +16,8 @@ from lisfs.client import Commands, Program, Refused, Retag, Retagged, as_content
 from lisfs.constants import IN_USE, NO_FILE_HERE, REFUSAL_WORDS, UNKNOWN_PROPERTY
 from lisfs.dumps import Axiom, Dump
 from lisfs.index import File
-from lisfs.refusals import about
+from lisfs.formulas import replaced
+from lisfs.refusals import MEANT, about
 from lisfs.web.places import Place
 from lisfs.words import head_of, is_head, is_plain, is_test, is_word
 
@@ -121,6 +122,13 @@ class Image(image.Image[File]):
         lefts = {left for left, _ in self.axioms}
         known = {word for word in (*self.index.words(), *self.declared, *lefts, *map(head_of, lefts)) if word}
         return about(refused, known if refused.command == "cd" else self.declared)
+
+    def meant(self, refused: Refused, formula: bytes) -> list[bytes]:
+        """The formulas that may have been meant by one with a value that no file has: with values that begin so."""
+        for word in self.about(refused):
+            if head_of(word) and (found := self.index.beginning(word)):
+                return [replaced(formula, word, value) for value in found[:MEANT]]
+        return []
 
     def file(self, name: bytes) -> tuple[File, list[bytes], bytes]:
         """A file of the index, the words of a route to it and its bytes."""

@@ -1,13 +1,12 @@
 """The pages: what each shows of an image. The templates beside this make HTML of it; each page works without a script, and has no address but
 of these pages."""
 import dataclasses
-from collections.abc import Iterable
+from collections.abc import Iterable, Sequence
 from typing import NamedTuple
 
 from lisfs import derived
 from lisfs.client import Retagged
 from lisfs.constants import MAX_FORMULA
-from lisfs.formulas import joined as joined_words
 from lisfs.formulas import words_in
 from lisfs.index import File
 from lisfs.listings import TITLES, groups_of, within
@@ -180,10 +179,9 @@ class Pages:
         return joined(derived.told_of_misses(words, ((file.name, file.words) for file in files)),
                       derived.told_of_left_out(filter(self.image.is_assignable, words), ((file.given, file.words) for file in files)))
 
-    def wrong_place(self, typed: bytes, sentence: str) -> str:
-        meant = joined_words(typed.split()) if b" " in typed else None
-        return self.whole("wrong_place.html", "No such place", typed=typed, sentence=sentence, meant=[meant] if meant else [],
-                          missing=self.missing(words_in(typed)))
+    def wrong_place(self, typed: bytes, sentence: str, meant: Sequence[bytes]) -> str:
+        """A page that says why a formula is refused, and links the formulas that may have been meant."""
+        return self.whole("wrong_place.html", "No such place", typed=typed, sentence=sentence, meant=meant, missing=self.missing(words_in(typed)))
 
     # A place.
 
