@@ -15,7 +15,7 @@ from lisfs.constants import (
     LARGE_FORMULA, LONG_LINE, MAX_ASSIGNED, MAX_DESCRIPTION, MAX_FILE, MAX_FORMULA, MAX_LARGE_FILE, MAX_LINE, MAX_NODES, NAME_TAKEN, NO_AXIOM,
     NO_AXIOM_ROOM, NO_FILE_HERE, NO_FILE_ROOM, NO_PROPERTY_ROOM, NO_SPACE, NOT_A_PLACE, NOT_ASSIGNABLE, NOT_DECLARED, NOT_IN_FORM, OTHER_MARKS,
     PAYLOAD_END, TOO_MANY_ASSIGNED, UNKNOWN_PROPERTY)
-from lisfs.formulas import joined, words_in
+from lisfs.formulas import Instead, joined, words_in
 from lisfs.words import NAME_FORM, head_of, is_file_name, is_plain, is_test, is_word
 
 
@@ -203,6 +203,11 @@ def sentence_about(number: int, command: str | None, words: Sequence[bytes]) -> 
         needed = list(dict.fromkeys(word if is_plain(word) else head_of(word) or word for word in words))
         return f"{said(words)}: not declared. Declare {said(needed)} first."
     return f"{said(words)}: not known here. No file has {them}, and nobody has declared {them}."
+
+
+def left_out(instead: Instead) -> str:
+    """A clause for words that no file has, and without which a formula is read."""
+    return f"{said(instead.unused)}: no file has {'this word' if len(instead.unused) == 1 else 'these words'}, so the formula is `{said([instead.formula])}`"
 
 
 def without_blanks(words: Sequence[bytes], before: str = "", behind: str = "") -> str | None:

@@ -117,6 +117,19 @@ def test_values_that_begin_so(visitor, typed, meant):
     assert all(leads(seen, formula) == f"./?at={formula}" for formula in meant) and ("Did you mean" in seen.text) == bool(meant)
 
 
+@pytest.mark.parametrize("typed, wanted, told", (
+    (b"music|nosuch", "music", "nosuch: no file has this word"), (b"year:7|!(x:y|live)/music", "!live/music", "year:7, x:y: no file has these words")))
+def test_a_word_that_no_file_has(visitor, typed, wanted, told):
+    """Beside `|` it is left out, which a line says."""
+    seen, plain = visitor.page(at=typed), visitor.page(at=wanted)
+    assert f"{told}, so the formula is `{wanted}`." in seen.text and seen.counts() == plain.counts() and seen.links == plain.links
+
+
+@pytest.mark.parametrize("typed", (b"music|!nosuch", b"music/nosuch", b"nosuch|nosuch"))
+def test_a_word_that_is_refused(visitor, typed):
+    assert "nosuch: not known here." in visitor.page(at=typed, status=404).text
+
+
 @pytest.mark.parametrize("label, wanted", (
     ("Take out live", "./?at=/music/year:/!size:small"), ("Take out year:", "./?at=/(live|music)/!size:small"),
     ("Negate music", "./?at=/(live|!music)/year:/!size:small"), ("Without not: size:small", "./?at=/(live|music)/year:/size:small"),

@@ -394,6 +394,46 @@ def test_values_that_begin_so(program):
             assert answer(line.encode() + b"\n") == (1, b"", f"shell: {told}\n"), line
 
 
+# Over the files gig, album, single and notes: a line, what is shown, and the formula that is taken.
+SIDES = (
+    ("find live|nosuch", b"gig\n", "live"), ("find nosuch|live", b"gig\n", "live"), ("find /(year:7|live)/music", b"gig\n", "/live/music"),
+    ("find !(music|nosuch)", b"notes\n", "!music"), ("find live|(nosuch/music)", b"gig\n", "live"), ("ls nosuch|live", b"f gig\n", "live"),
+    ("ls -c live|nosuch", b"f gig\n", "live"), ("grep x nosuch|live", b"", "live"), ("tag live in nosuch|live", b"0 of 1 file changed\n", "live"),
+    ("untag live in (single|live)/music", b"1 of 1 file changed\n", "live/music"), ("get in live|nosuch out", b"out: 1 file copied, 0 bytes\n", "live"))
+
+
+@pytest.mark.parametrize("line, shown, taken", SIDES, ids=[line for line, *_ in SIDES])
+def test_a_word_that_no_file_has(program, line, shown, taken):
+    """Its side of `|` is left out, which a line says. The place stays, and `cd` of a script is that of the program."""
+    make(script=TAKEN)
+    os.mkdir("out")
+    word = next(word for word in ("nosuch", "year:7", "single") if word in line)
+    near = "; is it `year:1999`?" if word == "year:7" else ""
+    with within() as answer:
+        assert answer(line.encode() + b"\npwd\n") == (
+            0, shown + b"w /\n", f"shell: {word}: no file has this word, so the formula is `{taken}`{near}\n")
+
+
+UNKNOWN = "this word is not known; `mkdir nosuch` declares it"
+
+
+@pytest.mark.parametrize("line", ("cd live|nosuch", "find nosuch", "find live/nosuch", "find live|!nosuch", "find !nosuch", "find nosuch|(nosuch/live)",
+                                  "tag live in music/(nosuch|nosuch)"))
+def test_a_word_that_is_refused(program, line):
+    """No formula without it would find the same, or it is `cd` of a script."""
+    make(script=TAKEN)
+    with within() as answer:
+        assert answer(line.encode() + b"\npwd\n") == (1, b"w /\n", f"shell: nosuch: {UNKNOWN}\n")
+
+
+def test_values_that_begin_so_beside_others(program):
+    """Also at a place, and words that were meant are named."""
+    make(script=TAKEN)
+    assert shell(b"cd music\nfind year:19|year:2003|musik\nfind /musik|live\npwd\n") == (
+        0, b"album\ngig\ngig\nw music\n", "shell: year:19, musik: no file has these words, so the formula is `year:2003`; did you mean `year:1999`?\n"
+        "shell: musik: no file has this word, so the formula is `/live`; is it `music`?\n")
+
+
 BACK = "shell: find: there is no way back to this place, which is too long or has a word that nothing has any more: " \
        "say a formula that goes on from here, or `cd` elsewhere first\n"
 

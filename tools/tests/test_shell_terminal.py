@@ -54,6 +54,23 @@ def test_terminals(at_terminal):
         assert b"\x1b]0" not in at.shown and b"\x9b" not in at.shown and b"\xff" not in at.shown, ("nothing harms", at.shown)
 
 
+def test_a_place_without_a_word_that_no_file_has(at_terminal):
+    """At a prompt `cd` goes to the place without it."""
+    make(script=TAKEN)
+    with at_terminal(NO_COLOR="1") as at:
+        at.sees(b"/> ")
+        at.types(b"cd live|nosuch\n")
+        assert at.sees(b"nosuch: no file has this word, so the formula is `live`\r\n/live> ") is not None, at.shown[-300:]
+        at.types(b"cd music/nosuch\n")
+        assert at.sees(b"nosuch: this word is not known; `mkdir nosuch` declares it\r\n/live> ") is not None, at.shown[-300:]
+        at.types(b"cd /!(year:1999|nosuch)\n")
+        assert at.sees(b"so the formula is `/!year:1999`\r\n/!year:1999> ") is not None, at.shown[-300:]
+        at.types(b"cd a b\n")
+        assert at.sees(b"cd: a formula has no blanks, and `/` joins its words: `cd a/b`\r\n") is not None, at.shown[-300:]
+        at.types(b"exit\n")
+        assert at.ends() == 0
+
+
 @pytest.mark.parametrize("more", ({"NO_COLOR": "1"}, {"TERM": "dumb"}), ids=("NO_COLOR", "a dumb terminal"))
 def test_no_colours(at_terminal, more):
     make(limits=("64", "64", "64"), script=TAKEN)

@@ -109,7 +109,7 @@ class Copying:
         folder = os.path.expanduser(folder)
         if not os.path.isdir(folder):
             raise Failed(f"{harmless(folder)}: no such folder: make it first")
-        with elsewhere(self.session, "get", formula):
+        with elsewhere(self.session, self.screen, "get", formula):
             files = self.session.files()
             there = {file.name for file in files if os.path.lexists(os.path.join(folder, file.name))}
             self.ask_for(folder, sorted(there), len(files))

@@ -5,7 +5,7 @@ it can't be, the sentence names the line's own words.
 """
 import difflib
 import shlex
-from collections.abc import Callable, Iterable
+from collections.abc import Callable, Iterable, Sequence
 from typing import TypeAlias
 
 from lisfs import constants
@@ -44,9 +44,9 @@ def meant(word: bytes, among: Iterable[bytes]) -> str:
     return f"; is it `{near[0]}`?" if near else ""
 
 
-def values_meant(words: Words, session: Session) -> str:
-    """A question for the values that may have been meant: those that begin as a word does, or else one that is near."""
-    for word in words:
+def values_meant(words: Sequence[bytes], session: Session) -> str:
+    """A question for the words that may have been meant: those that begin as a value does, or else one that is near."""
+    for word in filter(head_of, words):
         if found := session.beginning(word):
             named = ", ".join(f"`{harmless(value)}`" for value in found[:MEANT])
             return f"; did you mean {named}{', ..' if len(found) > MEANT else ''}?"

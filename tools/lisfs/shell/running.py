@@ -58,6 +58,9 @@ class Shell:
         is_short = len(line) <= most_of_line(words[0])
         if words[0] == b"ls" and is_short and (len(words) > 1 or self.screen.asks):
             self.looking.ls(words[1:])
+        elif words[0] == b"cd" and len(words) == 2 and is_short and self.screen.asks:
+            # In a script it is that of the program.
+            self.looking.cd(line, words[1])
         elif words[0] in self.own and is_short:
             self.own[words[0]](line, words[1:])
         else:

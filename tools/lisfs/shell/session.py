@@ -15,8 +15,8 @@ from lisfs import client
 from lisfs.client import GoOn, NotSent, Program, Refused, Reply, Retag, Retagged, as_content, words_of
 from lisfs.constants import UNKNOWN_PROPERTY
 from lisfs.dumps import Axiom, Dump
+from lisfs.formulas import Instead, without, words_in
 from lisfs.formulas import formula as read_formula
-from lisfs.formulas import words_in
 from lisfs.image import Following, Limits
 from lisfs.index import File, Index
 from lisfs.shell.undoing import UNDOABLE, Change, moving, tags_of, undoing
@@ -414,8 +414,17 @@ class Session(Following[File]):
         """Whether a file may be given this word."""
         return is_plain(word) and word in self.declared or head_of(word) in self.declared and word not in self.declared
 
+    def instead_of(self, formula: bytes) -> Instead | None:
+        """The formula that finds what one with unknown words would, without these, or None if there is none: see `formulas.without`."""
+        return without(formula, self._asked_unknown(formula))
+
     def unknown(self, formula: bytes) -> list[bytes]:
-        """Those words of a formula that the program does not know, each asked for alone, behind this place."""
+        """Those words of a formula that the program does not know."""
+        # At a place that is almost too large none can be asked for.
+        return self._asked_unknown(formula) or [word for word in words_in(formula) if word not in self.known()]
+
+    def _asked_unknown(self, formula: bytes) -> list[bytes]:
+        """The same, each asked for alone, behind this place, as far as they can be."""
         found = []
         for word in words_in(formula):
             try:
@@ -424,5 +433,4 @@ class Session(Following[File]):
                 found += [word] if refused.number == UNKNOWN_PROPERTY else []
             else:
                 self.program.cd(b"..")
-        # At a place that is almost too large none can be asked for.
-        return found or [word for word in words_in(formula) if word not in self.known()]
+        return found

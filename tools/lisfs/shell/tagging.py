@@ -62,7 +62,7 @@ class Tagging:
         FORMULA` is a word and the files of another place."""
         if len(given) == 3 and given[1] == b"in":
             words = [given[0]]
-            with elsewhere(self.session, command, given[2]):
+            with elsewhere(self.session, self.screen, command, given[2]):
                 files = self.session.files()
         else:
             names = {word: None for word in dict.fromkeys(given) if self.session.is_here(word)}

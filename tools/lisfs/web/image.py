@@ -16,7 +16,7 @@ from lisfs.client import Commands, Program, Refused, Retag, Retagged, as_content
 from lisfs.constants import IN_USE, NO_FILE_HERE, REFUSAL_WORDS, UNKNOWN_PROPERTY
 from lisfs.dumps import Axiom, Dump
 from lisfs.index import File
-from lisfs.formulas import replaced
+from lisfs.formulas import Instead, replaced, without, words_in
 from lisfs.refusals import MEANT, about
 from lisfs.web.places import Place
 from lisfs.words import head_of, is_head, is_plain, is_test, is_word
@@ -104,6 +104,22 @@ class Image(image.Image[File]):
                 self.describe(self.index.files.values())
                 is_anew = True
         raise Differs(formula)
+
+    def found(self, formula: bytes) -> tuple[View, Instead | None]:
+        """The same, without the sides of `|` that have words which no file has; and the formula without them, if there are such words."""
+        try:
+            return self.look(formula), None
+        except Refused as refused:
+            instead = without(formula, self._unknown(formula)) if refused.number == UNKNOWN_PROPERTY else None
+            if instead is None:
+                raise
+            return self.look(instead.formula), instead
+
+    def _unknown(self, formula: bytes) -> list[bytes]:
+        """The words of a formula that the program does not know."""
+        words = words_in(formula)
+        answers = self._answers([*((b"cd", image.ROOT + word) for word in words), (b"cd", image.ROOT)])
+        return [word for word, answer in zip(words, answers) if isinstance(answer, Refused) and answer.number == UNKNOWN_PROPERTY]
 
     def _agrees(self, here: int, words: list[tuple[bytes, int]], shown: list[bytes]) -> bool:
         whole, covered = here.bit_count(), 0

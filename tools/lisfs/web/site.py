@@ -22,7 +22,7 @@ from lisfs.client import Ended, NotAReply, NotSent, Refused, Retagged
 from lisfs.constants import BAD_FORMULA, BAD_LINE, LARGE_FILE, LARGE_FORMULA, MAX_FORMULA, MAX_LINE, MAX_WORD, NO_FILE_HERE, NOT_A_PLACE
 from lisfs.endings import say
 from lisfs.formulas import joined
-from lisfs.refusals import sentence, sentence_about
+from lisfs.refusals import left_out, sentence, sentence_about
 
 from lisfs.web.image import Differs, Image, NothingToUndo, OtherBytes, View, WrongWord
 from lisfs.web.markup import address, counted
@@ -323,14 +323,14 @@ class Site:
     def place(self, given: Fields) -> Answer:
         typed = given.get("at", b"")
         try:
-            view = self._look(given)
+            view, instead = self.image.found(typed or b"/")
         except Refused as refused:
             return self._page(self.pages.wrong_place(typed, self._told_of(refused), self.image.meant(refused, typed)), 404)
         except NotSent:
             # It has blanks, or is too long for a line.
             told = sentence(LARGE_FORMULA if len(typed) > MAX_FORMULA else BAD_FORMULA)
             return self._page(self.pages.wrong_place(typed, told, list(filter(None, [joined(typed.split())]))), 404)
-        return self._page(self.pages.place(view, given.get("q", b""), self._told(given)))
+        return self._page(self.pages.place(view, given.get("q", b""), f"{left_out(instead)}." if instead else self._told(given)))
 
     def _told(self, given: Fields) -> str | None:
         """The sentence of a change that was done, and of how many files, if an address says so."""

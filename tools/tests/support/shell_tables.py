@@ -20,7 +20,7 @@ SCRIPTS = (
     ("no line feed behind the last line, and CR", b"pwd\r\nls -c", b"w /\nd 1 live\nd 3 music\nd 3 year:\nf   notes\n", ""),
     ("places", b"cd music\npwd\ncd year:2003/!live\npwd\nls\ncd ..\npwd\ncd /\npwd\n",
      b"w music\nw music/year:2003/!live\nf album\nw music/year:2003\nw /\n", ""),
-    ("all files", b"find\ncd music\nfind\nfind !live\nfind /notes|live\nfind /!music\nfind ..\npwd\n",
+    ("all files", b"find\ncd music\nfind\nfind !live\nfind /notes/live\nfind /!music\nfind ..\npwd\n",
      b"album\ngig\nnotes\nsingle\nalbum\ngig\nsingle\nalbum\nsingle\nnotes\nalbum\ngig\nnotes\nsingle\nw music\n",
      "shell: notes: this is the name of a file, and no word\n"),
     ("changes", b"mkdir jazz\naxiom jazz music\ncreate blue jazz\nrename blue green\nmv green live\nprops green\nway green\nstat\nrm green\n"
