@@ -408,10 +408,8 @@ def test_a_word_that_no_file_has(program, line, shown, taken):
     make(script=TAKEN)
     os.mkdir("out")
     word = next(word for word in ("nosuch", "year:7", "single") if word in line)
-    near = "; is it `year:1999`?" if word == "year:7" else ""
     with within() as answer:
-        assert answer(line.encode() + b"\npwd\n") == (
-            0, shown + b"w /\n", f"shell: {word}: no file has this word, so the formula is `{taken}`{near}\n")
+        assert answer(line.encode() + b"\npwd\n") == (0, shown + b"w /\n", f"shell: {word}: no file has this word, so the formula is `{taken}`\n")
 
 
 UNKNOWN = "this word is not known; `mkdir nosuch` declares it"

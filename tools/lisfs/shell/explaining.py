@@ -50,7 +50,7 @@ def values_meant(words: Sequence[bytes], session: Session) -> str:
         if found := session.beginning(word):
             named = ", ".join(f"`{harmless(value)}`" for value in found[:MEANT])
             return f"; did you mean {named}{', ..' if len(found) > MEANT else ''}?"
-    return meant(words[0], [value for value in session.known() if head_of(value) == head_of(words[0])])
+    return meant(words[0], [value for value in session.known() if head_of(value) == head_of(words[0]) and not is_head(value)])
 
 
 def sentence(refused: Refused, line: bytes, session: Session) -> str:
