@@ -216,8 +216,8 @@ class Items:
     """Cuts an input into commands as `lisfs run` does, where a line has at most so many bytes. A line without words is none. A line is judged
     without a CR at its end, and handed on with it: the program drops one itself, and would judge another line where one was dropped before.
     What is kept of a command has the same reply as all of it: of a line that is too long its first bytes, in place of a payload that is too
-    large the smallest such one, and of what stands behind a payload in place of a line feed one byte. A caller that runs longer lines itself
-    says by `whole` up to how many bytes a line that is too long is handed on whole."""
+    large the smallest such one, and of what stands behind a payload in place of a line feed one byte. For a caller that runs longer lines
+    itself, lines of up to `whole` bytes are handed on whole."""
 
     def __init__(self, longest: int = MAX_LINE, whole: int = 0) -> None:
         # What was not taken, without the line that a payload follows, which stands by itself.

@@ -101,8 +101,8 @@ def wrong_word(*words: str) -> str:
 def cause_of(error: Exception, image: str, name: str, formula: str) -> str:
     """What an error of the program says, in one line."""
     if isinstance(error, Refused):
-        told = without_blanks(os.fsencode(formula).split()) if error.number == BAD_FORMULA else None
-        return f"{name}: {told or error}"
+        hint = without_blanks(os.fsencode(formula).split()) if error.number == BAD_FORMULA else None
+        return f"{name}: {hint or error}"
     if isinstance(error, Locked):
         return f"{image}: in use by another lisfs"
     if isinstance(error, NotJoined):
@@ -230,8 +230,8 @@ def edit(stops: Stops, image: str, name: str, formula: str) -> None:
 @quiet
 def main() -> int:
     if len(sys.argv) != 4:
-        told = without_blanks([os.fsencode(word) for word in sys.argv[3:]])
-        sys.exit(f"edit: {told}" if told else __doc__)
+        hint = without_blanks([os.fsencode(word) for word in sys.argv[3:]])
+        sys.exit(f"edit: {hint}" if hint else __doc__)
     if what := missing():
         sys.exit(f"edit: {what}")
     words = sys.argv[1:]

@@ -18,7 +18,7 @@ PART_LIMIT = 255
 # What is between the words of a formula.
 SIGNS = re.compile(rb"[/|!()]")
 PIECES = re.compile(rb"([/|!()])")
-# After and before which no sign is missing.
+# The signs after which, and those before which, `joined` adds none.
 SIGN_BEFORE, SIGN_BEHIND = b"/|!(", b"/|)"
 
 
@@ -57,12 +57,12 @@ class Rows(Protocol):
 
 
 def replaced(text: bytes, word: bytes, other: bytes) -> bytes:
-    """The text of a formula with another word instead of one."""
+    """The text of a formula with the word `other` instead of `word`."""
     return b"".join(other if piece == word else piece for piece in PIECES.split(text))
 
 
 def joined(words: Sequence[bytes]) -> bytes | None:
-    """The formula that was meant by several words with blanks between them, with `/` between those that no sign joins; None if that is none."""
+    """The formula that was meant by several words with blanks between them: `/` joins those that no other sign joins. None if that is no formula."""
     if len(words) < 2:
         return None
     text = b""
@@ -231,8 +231,8 @@ class Instead(NamedTuple):
 
 
 def without(text: bytes, unused: Sequence[bytes]) -> Instead | None:
-    """The formula of a text without the sides of `|` that hold of no file, since no file has the words `unused`. It holds of the same files. It is
-    None if such a word is elsewhere, so that nothing is left or that `!` makes all files of it; or if the text is no formula."""
+    """The formula of a text, without each side of `|` that holds of no file because no file has the words `unused`. It holds of the same files.
+    None if there is no such formula: nothing is left, or `!` turns such a side into all files, or the text is no formula."""
     root = text[:1] if text.startswith(b"/") else b""
     try:
         left = held(formula(text[len(root):]), unused)
@@ -242,7 +242,7 @@ def without(text: bytes, unused: Sequence[bytes]) -> Instead | None:
 
 
 def held(whole: Formula, unused: Sequence[bytes]) -> Formula | None:
-    """A formula without what holds of no file, or None if nothing of it is left. Raises `NotAFormula` if none says so."""
+    """A formula without its parts that hold of no file, or None if it holds of no file itself. Raises `NotAFormula` if no formula says this."""
     if isinstance(whole, Word):
         return None if whole.word in unused else whole
     if isinstance(whole, Not):

@@ -210,10 +210,10 @@ def left_out(instead: Instead) -> str:
     return f"{said(instead.unused)}: no file has {'this word' if len(instead.unused) == 1 else 'these words'}, so the formula is `{said([instead.formula])}`"
 
 
-def without_blanks(words: Sequence[bytes], before: str = "", behind: str = "") -> str | None:
-    """What is wrong with several words instead of one formula, and which one was meant, between texts of its line; None if they make none."""
+def without_blanks(words: Sequence[bytes], before: str = "", after: str = "") -> str | None:
+    """Says of several words that they should be one formula, and shows that formula in its line, between two texts; None if they make no formula."""
     found = joined(words)
-    return f"a formula has no blanks, and `/` joins its words: `{before}{said([found])}{behind}`" if found else None
+    return f"a formula has no blanks, and `/` joins its words: `{before}{said([found])}{after}`" if found else None
 
 
 def error_of(number: int) -> int:

@@ -431,7 +431,7 @@ def test_items(number, piece):
 
 @pytest.mark.parametrize("size, wanted", ((20, 20), (21, 21), (30, 30), (31, 31), (100_000, 31)))
 def test_a_long_line_that_is_handed_on_whole(size, wanted):
-    """Up to so many bytes. Whatever it says, no payload follows it."""
+    """It is whole up to 30 bytes, and no payload follows it."""
     cut = Items(20, 30)
     cut.feed(b"add a 2".ljust(size, b"x") + b"\nls\n")
     assert cut.take() == (b"add a 2".ljust(size, b"x")[:wanted] + b"\n", b"") and cut.take() == (b"ls\n", b"")

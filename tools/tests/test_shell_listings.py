@@ -121,9 +121,9 @@ GREPS = (
     ("an unknown word", "grep hello nosuch", b"", "nosuch: this word is not known; `mkdir nosuch` declares it"),
     ("no text", "grep", b"", "grep: usage: grep [-i] TEXT [FORMULA]"), ("an empty text", "grep ''", b"", "grep: usage: grep [-i] TEXT [FORMULA]"),
     ("too many words", "grep a live b", b"",
-     "grep: a text with blanks stands in quotes; a formula has no blanks, and `/` joins its words: `grep a live/b`"),
+     "grep: a text with blanks needs quotes; a formula has no blanks, and `/` joins its words: `grep a live/b`"),
     ("a text in quotes, and too many words", "grep 'a b' live !b", b"",
-     "grep: a text with blanks stands in quotes; a formula has no blanks, and `/` joins its words: `grep 'a b' live/!b`"),
+     "grep: a text with blanks needs quotes; a formula has no blanks, and `/` joins its words: `grep 'a b' live/!b`"),
     ("too many words, and no formula", "grep a live/ b/", b"", "b/: one word too many: usage: grep [-i] TEXT [FORMULA]"),
     ("a quote", "grep 'a", b"", "grep 'a: a quote is not closed"))
 

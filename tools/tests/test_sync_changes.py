@@ -197,7 +197,7 @@ def test_a_name_that_a_path_has():
 
 
 def test_no_conflict():
-    """A path that is in no conflict is told, and nothing else is done for it."""
+    """A line names a path that is in no conflict, and nothing is done for it."""
     bring_in("here", "there", "both")
     written("top/here", "the folder's\n")
     with session() as program:

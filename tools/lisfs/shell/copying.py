@@ -50,14 +50,14 @@ class Copying:
         self.screen.lines([f"{harmless(name)}: {len(content):,} bytes{told}"])
 
     def judged(self, command: bytes, name: bytes, content: bytes, words: Sequence[bytes], call: Callable[[], None]) -> None:
-        """A command with bytes, which is told as the line that it is."""
+        """Calls a command with bytes. A refusal is raised as a sentence for its line."""
         try:
             call()
         except Refused as refused:
             raise Failed(sentence(refused, b" ".join([command, name, b"%d" % len(content), *words]), self.session)) from None
 
     def content_of(self, path: bytes) -> bytes:
-        """The bytes of a file of the system, where a file may have so many."""
+        """The bytes of a file of the system, if a file of the image may have that many."""
         path, most = os.path.expanduser(path), self.session.limits.file_bytes
         try:
             found = os.stat(path)
@@ -78,8 +78,8 @@ class Copying:
         if len(words) == 3 and words[0] == b"in":
             self.get_all(words[1], words[2])
             return
-        if words[:1] == [b"in"] and len(words) > 3 and (told := with_blanks("get", words, 1, 1)):
-            raise Failed(told)
+        if words[:1] == [b"in"] and len(words) > 3 and (hint := with_blanks("get", words, 1, 1)):
+            raise Failed(hint)
         if not 1 <= len(words) <= 2:
             wrong("get")
         if not is_file_name(words[0]):
@@ -94,7 +94,7 @@ class Copying:
         self.screen.lines([f"{harmless(path)}: {len(content):,} bytes"])
 
     def write_to(self, path: bytes, content: bytes) -> None:
-        """Writes a file of the system: a new one, or in place of another where that is wanted."""
+        """Writes a file of the system: a new one, or over an old one if somebody says yes."""
         if not os.path.lexists(path):
             write_new(path, content)
             return
@@ -116,18 +116,18 @@ class Copying:
             self.copy(files, folder, there)
 
     def ask_for(self, folder: bytes, there: Sequence[bytes], count: int) -> None:
-        """Whether files that are there already may be written over, before any is."""
+        """Asks, before anything is written, whether to write over the files that are there already. Raises `Failed` if not."""
         for name in there:
             if not os.path.isfile(path := os.path.join(folder, name)):
                 raise Failed(f"{harmless(path)}: it is there already, and no plain file; nothing was copied")
         if not there:
             return
-        told = f"{harmless(folder)}: {len(there):,} of {of_files(count)} are there already: {said(*there[:SHOWN])}{', ..' if len(there) > SHOWN else ''}"
-        if not self.screen.says_yes(f"{told}: write over them?"):
-            raise Failed(f"{told}; nothing was copied")
+        text = f"{harmless(folder)}: {len(there):,} of {of_files(count)} are there already: {said(*there[:SHOWN])}{', ..' if len(there) > SHOWN else ''}"
+        if not self.screen.says_yes(f"{text}: write over them?"):
+            raise Failed(f"{text}; nothing was copied")
 
     def copy(self, files: Sequence[File], folder: bytes, over: Collection[bytes]) -> None:
-        """Copies files; those in `over` are written over. However it ends, it says how many were copied."""
+        """Copies files, those in `over` over old ones. At its end it says how many were copied, also if it fails half way."""
         count, size, last = 0, 0, b""
         try:
             for file, content in self.session.contents(files):
@@ -141,12 +141,12 @@ class Copying:
             self.screen.complain(f"{harmless(folder)}: {count:,} of {of_files(len(files))} copied" + (f", up to {said(last)}" if count else ""))
             raise
         # Of a served image another client may have removed some meanwhile.
-        told = of_files(count) if count == len(files) else f"{count:,} of {of_files(len(files))}"
-        self.screen.lines([f"{harmless(folder)}: {told} copied, {size:,} bytes"])
+        text = of_files(count) if count == len(files) else f"{count:,} of {of_files(len(files))}"
+        self.screen.lines([f"{harmless(folder)}: {text} copied, {size:,} bytes"])
 
 
 def write_new(path: bytes, content: bytes) -> None:
-    """Writes a file of the system that is not there yet. One that is written by half is removed."""
+    """Writes a file of the system that is not there yet. If this fails half way, no file is left."""
     try:
         with open(path, "xb") as file:
             file.write(content)
@@ -159,7 +159,7 @@ def write_new(path: bytes, content: bytes) -> None:
 
 
 def write_over(path: bytes, content: bytes) -> None:
-    """Writes a file of the system in place of another, whose bytes stand until the new ones are whole."""
+    """Writes over a file of the system, which has its old bytes until the new ones are complete."""
     # Few sessions need it.
     import tempfile
     path = os.path.realpath(path)
@@ -176,7 +176,7 @@ def write_over(path: bytes, content: bytes) -> None:
 
 
 def in_quotes(line: bytes) -> list[bytes]:
-    """The words behind the command, with quotes and backslashes as in other shells."""
+    """The words after the command, with quotes and backslashes as in other shells."""
     try:
         words = [os.fsencode(word) for word in shlex.split(os.fsdecode(line.removesuffix(b"\r")))]
     except ValueError:

@@ -68,8 +68,8 @@ def bad_line(command: str, given: Words, _: object) -> str:
         return f"{harmless(command.encode())}: there is no such command{near or '; `help` lists all'}"
     form, parts = COMMANDS[command], COMMANDS[command].parts
     if len(given) > len(parts) and not form.repeats:
-        told = with_blanks(command, given, len(parts) - 1) if parts[-1:] == (Part.FORMULA,) else None
-        return told or f"{harmless(given[len(parts)])}: one word too many: usage: {form.form}"
+        hint = with_blanks(command, given, len(parts) - 1) if parts[-1:] == (Part.FORMULA,) else None
+        return hint or f"{harmless(given[len(parts)])}: one word too many: usage: {form.form}"
     if len(given) >= form.needed:
         for word, part in zip(given, parts + parts[-1:] * len(given)):
             if part in FILES and not is_file_name(word):
@@ -81,13 +81,13 @@ def bad_line(command: str, given: Words, _: object) -> str:
     return f"{command}: usage: {form.form}"
 
 
-def with_blanks(command: str, given: Words, at: int, behind: int = 0) -> str | None:
-    """A sentence for a line whose formula begins at this word and has blanks, with so many words behind it; None if they make none."""
-    end = len(given) - behind
-    before, after = ([shlex.quote(harmless(word)) for word in words] for words in (given[:at], given[end:]))
-    told = without_blanks(given[at:end], " ".join([command, *before, ""]), " ".join(["", *after]))
-    # Of `grep` the text may be what has blanks.
-    return told and f"{command}: {'a text with blanks stands in quotes; ' if command == 'grep' else ''}{told}"
+def with_blanks(command: str, given: Words, at: int, after: int = 0) -> str | None:
+    """A sentence for a line whose formula begins at word `at` and has blanks, and has `after` words after it; None if its words make no formula."""
+    end = len(given) - after
+    first, last = ([shlex.quote(harmless(word)) for word in words] for words in (given[:at], given[end:]))
+    hint = without_blanks(given[at:end], " ".join([command, *first, ""]), " ".join(["", *last]))
+    # In a line of `grep` the text may be what has blanks.
+    return hint and f"{command}: {'a text with blanks needs quotes; ' if command == 'grep' else ''}{hint}"
 
 
 def long_line(command: str, given: Words, session: Session) -> str:
@@ -103,8 +103,8 @@ def payload_end(command: str, given: Words, session: Session) -> str:
 
 
 def formula(command: str, given: Words, session: Session) -> str:
-    told = without_blanks(given[-1].split())
-    return f"{said(given[-1])}: {told or 'no formula: words with `/` (and), `|` (or), `!` (not) and parentheses, without blanks'}"
+    hint = without_blanks(given[-1].split())
+    return f"{said(given[-1])}: {hint or 'no formula: words with `/` (and), `|` (or), `!` (not) and parentheses, without blanks'}"
 
 
 def unknown(command: str, given: Words, session: Session) -> str:

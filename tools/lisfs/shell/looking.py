@@ -39,7 +39,7 @@ def elsewhere(session: Session, screen: Screen, command: str, formula: bytes | N
 
 
 def go(session: Session, screen: Screen, formula: bytes, call: Callable[[bytes], object]) -> None:
-    """Goes to the place of a formula by a call. A side of `|` with a word that no file has is left out, which a line says."""
+    """Goes to the place of a formula by a call. If no file has a word on one side of `|`, that side is left out, and a line says so."""
     try:
         call(formula)
     except Refused as refused:

@@ -424,7 +424,7 @@ class Session(Following[File]):
         return self._asked_unknown(formula) or [word for word in words_in(formula) if word not in self.known()]
 
     def _asked_unknown(self, formula: bytes) -> list[bytes]:
-        """The same, each asked for alone, behind this place, as far as they can be."""
+        """The same. Each is asked for alone, as a step from this place, unless the place is almost too large."""
         found = []
         for word in words_in(formula):
             try:

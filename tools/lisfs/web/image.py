@@ -106,7 +106,7 @@ class Image(image.Image[File]):
         raise Differs(formula)
 
     def found(self, formula: bytes) -> tuple[View, Instead | None]:
-        """The same, without the sides of `|` that have words which no file has; and the formula without them, if there are such words."""
+        """The same. If no file has a word on one side of `|`, it is the place of the formula without that side, which is returned too."""
         try:
             return self.look(formula), None
         except Refused as refused:
@@ -140,7 +140,7 @@ class Image(image.Image[File]):
         return about(refused, known if refused.command == "cd" else self.declared)
 
     def meant(self, refused: Refused, formula: bytes) -> list[bytes]:
-        """The formulas that may have been meant by one with a value that no file has: with values that begin so."""
+        """If no file has a value of a formula: the formulas with values that begin so, which may have been meant."""
         for word in self.about(refused):
             if head_of(word) and (found := self.index.beginning(word)):
                 return [replaced(formula, word, value) for value in found[:MEANT]]

@@ -328,8 +328,8 @@ class Site:
             return self._page(self.pages.wrong_place(typed, self._told_of(refused), self.image.meant(refused, typed)), 404)
         except NotSent:
             # It has blanks, or is too long for a line.
-            told = sentence(LARGE_FORMULA if len(typed) > MAX_FORMULA else BAD_FORMULA)
-            return self._page(self.pages.wrong_place(typed, told, list(filter(None, [joined(typed.split())]))), 404)
+            meant, number = joined(typed.split()), LARGE_FORMULA if len(typed) > MAX_FORMULA else BAD_FORMULA
+            return self._page(self.pages.wrong_place(typed, sentence(number), [meant] if meant else []), 404)
         return self._page(self.pages.place(view, given.get("q", b""), f"{left_out(instead)}." if instead else self._told(given)))
 
     def _told(self, given: Fields) -> str | None:
