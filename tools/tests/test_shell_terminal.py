@@ -59,14 +59,11 @@ def test_a_place_without_a_word_that_no_file_has(at_terminal):
     make(script=TAKEN)
     with at_terminal(NO_COLOR="1") as at:
         at.sees(b"/> ")
-        at.types(b"cd live|nosuch\n")
-        assert at.sees(b"nosuch: no file has this word, so the formula is `live`\r\n/live> ") is not None, at.shown[-300:]
-        at.types(b"cd music/nosuch\n")
-        assert at.sees(b"nosuch: this word is not known; `mkdir nosuch` declares it\r\n/live> ") is not None, at.shown[-300:]
-        at.types(b"cd /!(year:1999|nosuch)\n")
-        assert at.sees(b"so the formula is `/!year:1999`\r\n/!year:1999> ") is not None, at.shown[-300:]
-        at.types(b"cd a b\n")
-        assert at.sees(b"cd: a formula has no blanks, and `/` joins its words: `cd a/b`\r\n") is not None, at.shown[-300:]
+        for line, said, place in ((b"cd live|nosuch", b"nosuch: no file has this word, so the formula is `live`", b"/live> "),
+                                  (b"cd music/nosuch", b"nosuch: this word is not known; `mkdir nosuch` declares it", b"/live> "),
+                                  (b"cd /!(year:1999|nosuch)", b"nosuch: no file has this word, so the formula is `/!year:1999`", b"/!year:1999> "),
+                                  (b"cd a b", b"cd: a formula has no blanks, and `/` joins its words: `cd a/b`", b"/!year:1999> ")):
+            assert at.types(line + b"\n").sees(said + b"\r\n") is not None and at.sees(place) is not None, (line, at.shown[-300:])
         at.types(b"exit\n")
         assert at.ends() == 0
 

@@ -232,9 +232,9 @@ def test_verbose():
     os.remove("top/box/cur/1:2,")
     written("top/two", "other\n")
     os.rename("top/three", "top/below/three")
-    assert sync("--as", "t", "--verbose", "image", "top")[:2] == (
-        0, ["gone: below+one: top/below/one", f"gone: {name}", "moved: below+three: top/below/three", "changed: two: top/two",
-            "sync:t: 1 changed, 1 moved, 2 gone, 0 as they were"])
+    status, (*out, counts), _ = sync("--as", "t", "--verbose", "image", "top")
+    assert (status, counts, sorted(out)) == (0, "sync:t: 1 changed, 1 moved, 2 gone, 0 as they were", [
+        "changed: two: top/two", "gone: below+one: top/below/one", f"gone: {name}", "moved: below+three: top/below/three"])
 
 
 def test_found_again():
