@@ -6,7 +6,8 @@
 - `explaining`: a sentence for each refusal, with the word that is meant.
 - `looking`, `tagging`, `copying`: the commands that the shell has of its own.
 - `undoing`: what undoes each command.
-- `running`: a line carried out.
+- `earlier`: the last change of an earlier shell, for `undo`.
+- `running`: a line is run.
 - `completing`: what Tab makes of a line.
 - `terminal`: what a person sees and types.
 """

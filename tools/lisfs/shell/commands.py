@@ -132,7 +132,8 @@ COMMANDS = {
                      refusals=(NOT_ASSIGNABLE, UNKNOWN_PROPERTY, AXIOM_THERE, CYCLE, NO_AXIOM_ROOM, NO_PROPERTY_ROOM, LARGE_DESCRIPTION)),
     "unaxiom": command("unaxiom LEFT RIGHT", "removes that axiom", Part.KNOWN, Part.DECLARED, refusals=(NO_AXIOM,)),
     "undo": command("undo", "undoes the last change",
-                    more=f"Each further `undo` undoes the change before it. The last {UNDOABLE} changes of this shell are kept. There is no redo."),
+                    more=f"Each further `undo` undoes the change before it. The last {UNDOABLE} changes of this shell are kept, and then the last one "
+                         "of the shell before, which is undone only while the image is as it left it. There is no redo."),
     "help": command("help [COMMAND]", "explains all commands, or one", Part.COMMAND, needed=0),
     "exit": command("exit", "ends, as Ctrl-D does"),
     "quit": command("quit", "ends, as Ctrl-D does"),

@@ -8,6 +8,7 @@ from lisfs.constants import MAX_LINE
 from lisfs.formulas import words_in
 from lisfs.shell.commands import COMMANDS, LONGEST, all_in_lines, most_of_line, told
 from lisfs.shell.copying import Copying, in_quotes
+from lisfs.shell.earlier import Earlier
 from lisfs.shell.explaining import Failed, bad_line, sentence
 from lisfs.shell.looking import Looking
 from lisfs.shell.session import Session
@@ -24,9 +25,9 @@ class Over(Exception):
 
 
 class Shell:
-    def __init__(self, session: Session, screen: Screen) -> None:
+    def __init__(self, session: Session, screen: Screen, earlier: Earlier | None = None) -> None:
         self.session, self.screen, self.interrupts, self.has_told_misses = session, screen, screen.interrupts, False
-        self.looking, self.tagging, self.copying = Looking(session, screen), Tagging(session, screen), Copying(session, screen)
+        self.looking, self.tagging, self.copying = Looking(session, screen), Tagging(session, screen, earlier), Copying(session, screen)
         self.own: dict[bytes, Callable[[bytes, list[bytes]], None]] = {
             b"put": self.copying.put, b"get": self.copying.get, b"help": self.help, b"exit": self.exit, b"quit": self.exit,
             b"find": lambda _, given: self.looking.find(given), b"grep": lambda line, _: self.looking.grep(in_quotes(line)),
@@ -120,7 +121,7 @@ def formula_of(words: Sequence[bytes]) -> bytes:
     if command in (b"tag", b"untag"):
         return given[2] if len(given) == 3 and given[1] == b"in" else b""
     if command == b"get":
-        # The path behind it may have blanks.
+        # The path after it may have blanks.
         return given[1] if len(given) >= 3 and given[0] == b"in" else b""
     if command not in (b"cd", b"find", b"ls", b"grep"):
         return b""

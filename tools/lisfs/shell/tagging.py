@@ -9,6 +9,7 @@ from lisfs.client import Refused, Retag, Retagged, counts_in, gains_of, losses_o
 from lisfs.constants import BUILT_IN, LARGE_DESCRIPTION, MAX_ASSIGNED, NO_PROPERTY_ROOM, NOT_ASSIGNABLE, REFUSAL_WORDS, TOO_MANY_ASSIGNED, UNKNOWN_PROPERTY
 from lisfs.index import File
 from lisfs.shell.commands import ASKED
+from lisfs.shell.earlier import Earlier, NotUndone
 from lisfs.shell.explaining import Failed, bad_line, of_files, said, sentence, with_blanks
 from lisfs.shell.looking import elsewhere
 from lisfs.shell.session import NothingKept, NoWayBack, Session
@@ -31,8 +32,8 @@ class Wanted(NamedTuple):
 
 
 class Tagging:
-    def __init__(self, session: Session, screen: Screen) -> None:
-        self.session, self.screen = session, screen
+    def __init__(self, session: Session, screen: Screen, earlier: Earlier | None = None) -> None:
+        self.session, self.screen, self.earlier = session, screen, earlier
 
     # Words of several files.
 
@@ -78,7 +79,7 @@ class Tagging:
         return Wanted(files, words)
 
     def judge(self, words: Sequence[bytes]) -> None:
-        """Refuses words that no file is given, by the sentence of the program's refusal, so that nobody is asked in vain."""
+        """Refuses words that no file can be given, as the program would, before anybody is asked. Raises `Failed`."""
         for word in words:
             if is_built_in(word):
                 raise Failed(sentence(refusal_of(BUILT_IN), b"mv x /" + word, self.session))
@@ -88,7 +89,7 @@ class Tagging:
                 raise Failed(sentence(refusal_of(UNKNOWN_PROPERTY), b"mv x /" + word, self.session))
 
     def judge_room(self, words: Sequence[bytes]) -> None:
-        """The same if the image has no room for those of the words that are new."""
+        """The same for new words, if the image has no room for them."""
         known = self.session.known()
         new = [word for word in words if word not in known]
         if new and counts_in(self.session.program.stat().body)["known"] + len(new) > self.session.limits.words:
@@ -96,8 +97,8 @@ class Tagging:
 
     def lacking(self, command: str, given: Sequence[bytes], has_files: bool) -> str:
         usage = f"usage: {command} FILE.. WORD.., or {command} WORD in FORMULA"
-        if given[1:2] == [b"in"] and len(given) > 3 and (told := with_blanks(command, list(given), 2)):
-            return told
+        if given[1:2] == [b"in"] and len(given) > 3 and (hint := with_blanks(command, list(given), 2)):
+            return hint
         if not given:
             return f"{command}: {usage}"
         if has_files:
@@ -105,7 +106,7 @@ class Tagging:
         return f"{said(*given)}: no file of this place is among these: {usage}"
 
     def change(self, line: bytes, changes: Sequence[Retag], count: int, question: str, fitting: int) -> None:
-        """Makes changes, out of so many files, of which so many have room for it."""
+        """Makes changes to some of `count` files. `fitting` of them have room for the words."""
         if fitting > ASKED and self.screen.asks and not self.screen.says_yes(f"{question} {of_files(fitting)}?"):
             raise Failed("nothing was changed")
         with self.staying(said(line.split()[0])):
@@ -146,6 +147,7 @@ class Tagging:
     def undo(self, given: Sequence[bytes]) -> None:
         if given:
             raise Failed(bad_line("undo", list(given), self.session))
+        is_earlier = not self.session.kept and self.find_earlier()
         last = self.session.kept[-1].line if self.session.kept else b""
         try:
             with self.staying("undo"):
@@ -154,7 +156,17 @@ class Tagging:
             raise Failed("undo: there is nothing to undo: no change of this shell is kept any more, or none was made") from None
         except Refused as refused:
             raise Failed(f"undo: {said(last)}: can't be undone now ({refused.words}); it is kept, and `undo` tries it again") from None
-        self.screen.lines([f"undone: {said(line.strip())}"])
+        self.screen.lines([f"undone: {said(line.strip())}{' (of an earlier shell)' if is_earlier else ''}"])
+
+    def find_earlier(self) -> bool:
+        """Whether the last change of an earlier shell is to be undone, which is then among those that are kept."""
+        try:
+            change = self.earlier.change() if self.earlier else None
+        except NotUndone as error:
+            raise Failed(f"undo: {said(error.line.strip())}, of an earlier shell: {error.why}") from None
+        if change:
+            self.session.kept.append(change)
+        return change is not None
 
     @contextlib.contextmanager
     def staying(self, command: str) -> Iterator[None]:
