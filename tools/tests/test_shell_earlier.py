@@ -149,6 +149,7 @@ def test_at_a_terminal(at_terminal, taken):
     with at_terminal(NO_COLOR="1") as at:
         at.sees(b"/> ")
         at.types(b"tag notes live\n").sees(b"1 of 1 file changed\r\n")
+        at.sees(b"/> ")
         at.types(b"\x04")
         assert at.ends() == 0
     assert dump() != before
