@@ -76,10 +76,12 @@ COMMANDS = {
                        "you are."),
     "cd": command("cd FORMULA", "goes to a place", Part.FORMULA, refusals=LEADS,
                   more="`/` is and, `|` is or, `!` is not, `size>=N` and `size<N` test the bytes. A formula that begins with `/` starts at the root, "
-                       "any other goes on from here; `..` drops the last step."),
+                       "any other goes on from here; `..` drops the last step. At a terminal a word that no file has "
+                       "matches nothing on one side of `|`."),
     "pwd": command("pwd", "shows the place"),
-    "find": command("find [FORMULA]", "shows all files of a place, one a line", Part.FORMULA, needed=0,
-                    refusals=LEADS, more="The formula is written as in `cd`. Without one it is this place. You stay where you are."),
+    "find": command("find [FORMULA]", "shows all files of a place, one a line", Part.FORMULA, needed=0, refusals=LEADS,
+                    more="The formula is written as in `cd`. Without one it is this place. On one side of `|` a word that no file has matches "
+                         "nothing. You stay where you are."),
     "grep": command("grep [-i] TEXT [FORMULA]", "shows lines of files that have a text", Part.TEXT, Part.FORMULA, needed=1, refusals=LEADS,
                     more="Each is shown as NAME:NUMBER:LINE, of all files of the place to which the formula leads. The text stands for itself, "
                          "and may be in quotes; -i takes small and large letters as the same. Of a file with a NUL byte it shows only that the "
