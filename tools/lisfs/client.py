@@ -216,11 +216,12 @@ class Items:
     """Cuts an input into commands as `lisfs run` does, where a line has at most so many bytes. A line without words is none. A line is judged
     without a CR at its end, and handed on with it: the program drops one itself, and would judge another line where one was dropped before.
     What is kept of a command has the same reply as all of it: of a line that is too long its first bytes, in place of a payload that is too
-    large the smallest such one, and of what stands behind a payload in place of a line feed one byte."""
+    large the smallest such one, and of what stands behind a payload in place of a line feed one byte. For a caller that runs longer lines
+    itself, lines of up to `whole` bytes are handed on whole."""
 
-    def __init__(self, longest: int = MAX_LINE) -> None:
+    def __init__(self, longest: int = MAX_LINE, whole: int = 0) -> None:
         # What was not taken, without the line that a payload follows, which stands by itself.
-        self._longest, self._given = longest, bytearray()
+        self._longest, self._whole, self._given = longest, max(longest, whole), bytearray()
         self._line: bytes | None = None
         # Of this payload so many bytes are kept, and so many still to be dropped, with these in their place.
         self._kept, self._dropped, self._in_place = 0, 0, b""
@@ -233,9 +234,9 @@ class Items:
         while self._line is None:
             if (end := self._given.find(b"\n")) < 0:
                 # So many bytes tell that a line is too long.
-                del self._given[self._longest + 1:]
+                del self._given[self._whole + 1:]
                 return None
-            line = bytes(self._given[:min(end, self._longest + 1)])
+            line = bytes(self._given[:min(end, self._whole + 1)])
             del self._given[:end + 1]
             if len(line) > self._longest:
                 return Item(line + b"\n", b"")

@@ -31,9 +31,10 @@ from types import FrameType
 from typing import TypeVar
 
 from lisfs.client import Ended, Locked, NotAReply, Refused, missing
-from lisfs.constants import MAX_VIEW
+from lisfs.constants import BAD_FORMULA, MAX_VIEW
 from lisfs.endings import NotJoined, quiet
 from lisfs.parts import Changed, put, view
+from lisfs.refusals import without_blanks
 from lisfs.showing import harmless
 
 # How the program ends where it has certainly written nothing, beside being locked out: wrong words, no image, a fault of the input, no memory,
@@ -100,7 +101,8 @@ def wrong_word(*words: str) -> str:
 def cause_of(error: Exception, image: str, name: str, formula: str) -> str:
     """What an error of the program says, in one line."""
     if isinstance(error, Refused):
-        return f"{name}: {error}"
+        hint = without_blanks(os.fsencode(formula).split()) if error.number == BAD_FORMULA else None
+        return f"{name}: {hint or error}"
     if isinstance(error, Locked):
         return f"{image}: in use by another lisfs"
     if isinstance(error, NotJoined):
@@ -228,7 +230,8 @@ def edit(stops: Stops, image: str, name: str, formula: str) -> None:
 @quiet
 def main() -> int:
     if len(sys.argv) != 4:
-        sys.exit(__doc__)
+        hint = without_blanks([os.fsencode(word) for word in sys.argv[3:]])
+        sys.exit(f"edit: {hint}" if hint else __doc__)
     if what := missing():
         sys.exit(f"edit: {what}")
     words = sys.argv[1:]

@@ -7,8 +7,8 @@ from __future__ import annotations
 
 import functools
 import re
-from collections.abc import Callable, Iterable, Set
-from typing import Protocol
+from collections.abc import Callable, Iterable, Sequence, Set
+from typing import NamedTuple, Protocol
 
 from lisfs.constants import MAX_FORMULA, MAX_NODES, MAX_WORD
 from lisfs.words import TEST, WORD, is_test
@@ -17,6 +17,9 @@ from lisfs.words import TEST, WORD, is_test
 PART_LIMIT = 255
 # What is between the words of a formula.
 SIGNS = re.compile(rb"[/|!()]")
+PIECES = re.compile(rb"([/|!()])")
+# The signs after which, and those before which, `joined` adds none.
+SIGN_BEFORE, SIGN_BEHIND = b"/|!(", b"/|)"
 
 
 def words_in(formula: bytes) -> list[bytes]:
@@ -53,11 +56,34 @@ class Rows(Protocol):
     def where(self, is_so: Callable[[Described], bool]) -> int: ...
 
 
+def replaced(text: bytes, word: bytes, other: bytes) -> bytes:
+    """The text of a formula with the word `other` instead of `word`."""
+    return b"".join(other if piece == word else piece for piece in PIECES.split(text))
+
+
+def joined(words: Sequence[bytes]) -> bytes | None:
+    """The formula that was meant by several words with blanks between them: `/` joins those that no other sign joins. None if that is no formula."""
+    if len(words) < 2:
+        return None
+    text = b""
+    for word in words:
+        is_apart = text and text[-1:] not in SIGN_BEFORE and word[:1] not in SIGN_BEHIND
+        text += b"/" + word if is_apart else word
+    try:
+        formula(text.removeprefix(b"/"))
+    except NotAFormula:
+        return None
+    return text
+
+
 class Formula(Protocol):
-    """It says whether it holds of a file, of which files of an index it holds, as a row of bits, and which words it has."""
+    """It says whether it holds of a file, of which files of an index it holds, as a row of bits, which words it has, and how it is written."""
 
     nodes: int
     words: tuple[bytes, ...]
+
+    @property
+    def text(self) -> bytes: ...
 
     def meets(self, file: Described) -> bool: ...
 
@@ -68,6 +94,10 @@ class Word:
     def __init__(self, word: bytes) -> None:
         self.word, self.nodes = word, 1
         self.words: tuple[bytes, ...] = (word,)
+
+    @property
+    def text(self) -> bytes:
+        return self.word
 
     def meets(self, file: Described) -> bool:
         return self.word in file.words
@@ -81,6 +111,10 @@ class Test:
         self.is_least, self.size, self.nodes = sign == b">=", size, 1
         self.words: tuple[bytes, ...] = ()
 
+    @property
+    def text(self) -> bytes:
+        return b"size%b%d" % (b">=" if self.is_least else b"<", self.size)
+
     def meets(self, file: Described) -> bool:
         return (file.size >= self.size) == self.is_least
 
@@ -91,6 +125,10 @@ class Test:
 class Not:
     def __init__(self, part: Formula) -> None:
         self.part, self.words, self.nodes = part, part.words, part.nodes + 1
+
+    @property
+    def text(self) -> bytes:
+        return b"!" + enclosed(self.part, Pair)
 
     def meets(self, file: Described) -> bool:
         return not self.part.meets(file)
@@ -106,6 +144,10 @@ class Pair:
 
 
 class Or(Pair):
+    @property
+    def text(self) -> bytes:
+        return enclosed(self.left, And) + b"|" + enclosed(self.right, Pair)
+
     def meets(self, file: Described) -> bool:
         return self.left.meets(file) or self.right.meets(file)
 
@@ -114,11 +156,20 @@ class Or(Pair):
 
 
 class And(Pair):
+    @property
+    def text(self) -> bytes:
+        return self.left.text + b"/" + enclosed(self.right, And)
+
     def meets(self, file: Described) -> bool:
         return self.left.meets(file) and self.right.meets(file)
 
     def row(self, index: Rows) -> int:
         return self.left.row(index) & self.right.row(index)
+
+
+def enclosed(part: Formula, kind: type[Pair]) -> bytes:
+    """The text of a part, in parentheses if it is of this kind."""
+    return b"(" + part.text + b")" if isinstance(part, kind) else part.text
 
 
 class Reader:
@@ -170,6 +221,40 @@ class Reader:
 def formula(text: bytes) -> Formula:
     """What a text says. It is no deeper than a place has nodes. Raises `NotAFormula`."""
     return Reader(text).whole()
+
+
+class Instead(NamedTuple):
+    """A formula instead of one with words that no file has, and these words."""
+
+    formula: bytes
+    unused: tuple[bytes, ...]
+
+
+def without(text: bytes, unused: Sequence[bytes]) -> Instead | None:
+    """The formula of a text, without each side of `|` that holds of no file because no file has the words `unused`. It holds of the same files.
+    None if there is no such formula: nothing is left, or `!` turns such a side into all files, or the text is no formula."""
+    root = text[:1] if text.startswith(b"/") else b""
+    try:
+        left = held(formula(text[len(root):]), unused)
+    except NotAFormula:
+        return None
+    return Instead(root + left.text, tuple(unused)) if left and unused else None
+
+
+def held(whole: Formula, unused: Sequence[bytes]) -> Formula | None:
+    """A formula without its parts that hold of no file, or None if it holds of no file itself. Raises `NotAFormula` if no formula says this."""
+    if isinstance(whole, Word):
+        return None if whole.word in unused else whole
+    if isinstance(whole, Not):
+        if (part := held(whole.part, unused)) is None:
+            raise NotAFormula(whole.text)
+        return Not(part)
+    if isinstance(whole, Pair):
+        left, right = held(whole.left, unused), held(whole.right, unused)
+        if isinstance(whole, Or):
+            return Or(left, right) if left and right else left or right
+        return And(left, right) if left and right else None
+    return whole
 
 
 @functools.lru_cache(4_096)

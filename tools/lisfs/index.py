@@ -98,6 +98,12 @@ class Index(Generic[F]):
         """All words that files have."""
         return self._rows.keys()
 
+    def beginning(self, text: bytes) -> list[bytes]:
+        """The words of files that begin so, the most frequent first. Small and large letters are the same."""
+        text = text.lower()
+        found = [word for word in self._rows if word.lower().startswith(text)]
+        return sorted(found, key=lambda word: (-self._rows[word].bit_count(), word))
+
     def having(self, word: bytes) -> int:
         """The files that have a word, as a row."""
         return self._rows.get(word, 0)

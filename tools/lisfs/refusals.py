@@ -15,7 +15,7 @@ from lisfs.constants import (
     LARGE_FORMULA, LONG_LINE, MAX_ASSIGNED, MAX_DESCRIPTION, MAX_FILE, MAX_FORMULA, MAX_LARGE_FILE, MAX_LINE, MAX_NODES, NAME_TAKEN, NO_AXIOM,
     NO_AXIOM_ROOM, NO_FILE_HERE, NO_FILE_ROOM, NO_PROPERTY_ROOM, NO_SPACE, NOT_A_PLACE, NOT_ASSIGNABLE, NOT_DECLARED, NOT_IN_FORM, OTHER_MARKS,
     PAYLOAD_END, TOO_MANY_ASSIGNED, UNKNOWN_PROPERTY)
-from lisfs.formulas import words_in
+from lisfs.formulas import Instead, joined, words_in
 from lisfs.words import NAME_FORM, head_of, is_file_name, is_plain, is_test, is_word
 
 
@@ -146,6 +146,8 @@ def sentence(number: int, command: str | None = None) -> str:
             or f"The program refuses it, by number {number}.")
 
 
+# So many words are named that may have been meant.
+MEANT = 5
 # So many words after these commands are names of files, and so many more are no words of files.
 NAMES = {"create": 1, "add": 1, "write": 1, "cat": 1, "mv": 1, "rename": 2, "rm": 1, "props": 1, "way": 1}
 OTHERS = {"add": 1, "write": 1}
@@ -201,6 +203,17 @@ def sentence_about(number: int, command: str | None, words: Sequence[bytes]) -> 
         needed = list(dict.fromkeys(word if is_plain(word) else head_of(word) or word for word in words))
         return f"{said(words)}: not declared. Declare {said(needed)} first."
     return f"{said(words)}: not known here. No file has {them}, and nobody has declared {them}."
+
+
+def left_out(instead: Instead) -> str:
+    """A clause for words that no file has, and without which a formula is read."""
+    return f"{said(instead.unused)}: no file has {'this word' if len(instead.unused) == 1 else 'these words'}, so the formula is `{said([instead.formula])}`"
+
+
+def without_blanks(words: Sequence[bytes], before: str = "", after: str = "") -> str | None:
+    """Says of several words that they should be one formula, and shows that formula in its line, between two texts; None if they make no formula."""
+    found = joined(words)
+    return f"a formula has no blanks, and `/` joins its words: `{before}{said([found])}{after}`" if found else None
 
 
 def error_of(number: int) -> int:

@@ -93,11 +93,41 @@ def test_words_of_listings(copied, listings):
 
 # Where links lead, and what lists show.
 
+@pytest.mark.parametrize("typed, wanted", ((b"music live", "music/live"), (b"music | ! live", "music|!live"), (b"/music year: ", "/music/year:")))
+def test_a_formula_with_blanks(visitor, typed, wanted):
+    seen = visitor.page(at=typed, status=404)
+    assert f"Did you mean {wanted}?" in seen.text and leads(seen, wanted) == f"./?at={wanted}"
+
+
+
 @pytest.fixture(scope="module")
 def visitor(web_mixed, listings):
     """Who asks for pages of the image, after who had it alone."""
     with Browsed(web_mixed) as browsed:
         yield Visitor(browsed)
+
+
+@pytest.mark.parametrize("typed, meant", (
+    (b"music/subject:pla", ["music/subject:plan"]), (b"!year:/subject:PLA", ["!year:/subject:plan"]),
+    (b"subject:number", [f"subject:number{number}" for number in (0, 1, 10, 11, 12)]), (b"subject:nosuch", []), (b"nosuch", [])))
+def test_values_that_begin_so(visitor, typed, meant):
+    """A value that no file has leads to those that begin so, five at most."""
+    seen = visitor.page(at=typed, status=404)
+    assert [label for _, label, _ in seen.links if label.startswith(("music/", "!", "subject:"))] == meant
+    assert all(leads(seen, formula) == f"./?at={formula}" for formula in meant) and ("Did you mean" in seen.text) == bool(meant)
+
+
+@pytest.mark.parametrize("typed, wanted, told", (
+    (b"music|nosuch", "music", "nosuch: no file has this word"), (b"year:7|!(x:y|live)/music", "!live/music", "year:7, x:y: no file has these words")))
+def test_a_word_that_no_file_has(visitor, typed, wanted, told):
+    """Beside `|` it is left out, which a line says."""
+    seen, plain = visitor.page(at=typed), visitor.page(at=wanted)
+    assert f"{told}, so the formula is `{wanted}`." in seen.text and seen.counts() == plain.counts() and seen.links == plain.links
+
+
+@pytest.mark.parametrize("typed", (b"music|!nosuch", b"music/nosuch", b"nosuch|nosuch"))
+def test_a_word_that_is_refused(visitor, typed):
+    assert "nosuch: not known here." in visitor.page(at=typed, status=404).text
 
 
 @pytest.mark.parametrize("label, wanted", (

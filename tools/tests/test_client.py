@@ -429,6 +429,20 @@ def test_items(number, piece):
     assert (cut.is_cut(), cut.lacks_feed()) == end, f"the end of input {number}"
 
 
+@pytest.mark.parametrize("size, wanted", ((20, 20), (21, 21), (30, 30), (31, 31), (100_000, 31)))
+def test_a_long_line_that_is_handed_on_whole(size, wanted):
+    """It is whole up to 30 bytes, and no payload follows it."""
+    cut = Items(20, 30)
+    cut.feed(b"add a 2".ljust(size, b"x") + b"\nls\n")
+    assert cut.take() == (b"add a 2".ljust(size, b"x")[:wanted] + b"\n", b"") and cut.take() == (b"ls\n", b"")
+
+
+def test_a_payload_follows_no_long_line():
+    cut = Items(20, 30)
+    cut.feed(b"add aaaaaaaaaaa 2 xxx\nxy\nadd a 2\nxy\n")
+    assert [cut.take(), cut.take(), cut.take()] == [(b"add aaaaaaaaaaa 2 xxx\n", b""), (b"xy\n", b""), (b"add a 2\n", b"xy\n")]
+
+
 @pytest.mark.parametrize("begin, least, most", ((b"", 0, 1_999), (b"add a 999999999\n", 0, 0), (b"add a 2\nxyz", 3, 3)),
                          ids=("a line", "a payload", "a wrong end"))
 def test_what_has_no_end(begin, least, most):

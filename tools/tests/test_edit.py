@@ -377,10 +377,17 @@ def test_more_than_there_are_blocks(notes):
     keeps("more than there are blocks", edit(f"open(path, 'wb').write({text!r})\n", image="small"), "notes.txt: no 24 no space", text)
 
 
-@pytest.mark.parametrize("line", ([], ["image"], ["image", "notes.txt"], ["image", "notes.txt", "line:", "x"], ["--help"]))
+@pytest.mark.parametrize("line", ([], ["image"], ["image", "notes.txt"], ["image", "notes.txt", "line:", "x/"], ["--help"]))
 def test_wrong_use(line):
     ran = runs.run(EDIT, line)
     assert ran.code == 1 and ran.out == b"" and "usage: tools/edit IMAGE NAME F\n" in ran.error, (f"wrong use: {line}", ran)
+
+
+def test_a_formula_with_blanks(notes):
+    told = "a formula has no blanks, and `/` joins its words: `line:3/!x`"
+    for words, name in ((["line:3", "!x"], ""), (["line:3 !x"], "notes.txt: ")):
+        ran = runs.run(EDIT, ["image", "notes.txt", *words])
+        assert (ran.code, ran.out, ran.error) == (1, b"", f"edit: {name}{told}\n")
 
 
 # It shows the view that is in a file, and then does with `put`, and with what comes behind that many views, what it is told. At a view that is

@@ -373,6 +373,65 @@ def test_a_search_that_can_miss_a_file(program):
     assert status == 1 and said.startswith(f"shell: {MISSES.format('w190')}\n"), ("one that finds none for this", (status, shown, said))
 
 
+def test_values_that_begin_so(program):
+    """A value that no file has: those that begin so are named, the most frequent first, or else one that is near."""
+    make(limits=("64", "128", "64"), script=b"mkdir year:\nmkdir music\n" + b"".join(
+        b"add m%d.eml %d year:20%02d\n%b\n" % (number, len(mail), number, mail) for number, mail in enumerate(
+            b"From: ann@example.org\nSubject: w%d\n\n" % number for number in range(3)))
+        + b"add n.eml 25\nFrom: anna@b.example.org\n\n\ncreate song year:2007 music\ncreate other year:2007\n"
+        + b"".join(b"create f%d year:19%d\n" % (number, number) for number in range(10, 18)))
+    nothing = "no file has it"
+    rows = (("find from:ann", f"from:ann: {nothing}; did you mean `from:ann@example.org`, `from:anna@b.example.org`?"),
+            ("cd from:ANNA", f"from:ANNA: {nothing}; did you mean `from:anna@b.example.org`?"),
+            ("ls music/!year:20", f"year:20: {nothing}; did you mean `year:2007`, `year:2000`, `year:2001`, `year:2002`?"),
+            ("grep x year:19", f"year:19: {nothing}; did you mean `year:1910`, `year:1911`, `year:1912`, `year:1913`, `year:1914`, ..?"),
+            ("untag song year:200", f"year:200: {nothing}; did you mean `year:2007`, `year:2000`, `year:2001`, `year:2002`?"),
+            ("tag music in from:ann@exmaple.org", f"from:ann@exmaple.org: {nothing}; is it `from:ann@example.org`?"),
+            ("find to:bob", f"to:bob: {nothing}"), ("find to:bob/year:3/from:ann", "to:bob, year:3, from:ann: no file has them; did you mean "
+                                                     "`from:ann@example.org`, `from:anna@b.example.org`?"))
+    with within() as answer:
+        for line, told in rows:
+            assert answer(line.encode() + b"\n") == (1, b"", f"shell: {told}\n"), line
+
+
+# Over the files gig, album, single and notes: a line, what is shown, and the formula that is taken.
+SIDES = (
+    ("find live|nosuch", b"gig\n", "live"), ("find nosuch|live", b"gig\n", "live"), ("find /(year:7|live)/music", b"gig\n", "/live/music"),
+    ("find !(music|nosuch)", b"notes\n", "!music"), ("find live|(nosuch/music)", b"gig\n", "live"), ("ls nosuch|live", b"f gig\n", "live"),
+    ("ls -c live|nosuch", b"f gig\n", "live"), ("grep x nosuch|live", b"", "live"), ("tag live in nosuch|live", b"0 of 1 file changed\n", "live"),
+    ("untag live in (single|live)/music", b"1 of 1 file changed\n", "live/music"), ("get in live|nosuch out", b"out: 1 file copied, 0 bytes\n", "live"))
+
+
+@pytest.mark.parametrize("line, shown, taken", SIDES, ids=[line for line, *_ in SIDES])
+def test_a_word_that_no_file_has(program, line, shown, taken):
+    """Its side of `|` is left out, which a line says. The place stays, and `cd` of a script is that of the program."""
+    make(script=TAKEN)
+    os.mkdir("out")
+    word = next(word for word in ("nosuch", "year:7", "single") if word in line)
+    with within() as answer:
+        assert answer(line.encode() + b"\npwd\n") == (0, shown + b"w /\n", f"shell: {word}: no file has this word, so the formula is `{taken}`\n")
+
+
+UNKNOWN = "this word is not known; `mkdir nosuch` declares it"
+
+
+@pytest.mark.parametrize("line", ("cd live|nosuch", "find nosuch", "find live/nosuch", "find live|!nosuch", "find !nosuch", "find nosuch|(nosuch/live)",
+                                  "tag live in music/(nosuch|nosuch)"))
+def test_a_word_that_is_refused(program, line):
+    """No formula without it would find the same, or it is `cd` of a script."""
+    make(script=TAKEN)
+    with within() as answer:
+        assert answer(line.encode() + b"\npwd\n") == (1, b"w /\n", f"shell: nosuch: {UNKNOWN}\n")
+
+
+def test_values_that_begin_so_beside_others(program):
+    """Also at a place, and words that were meant are named."""
+    make(script=TAKEN)
+    assert shell(b"cd music\nfind year:19|year:2003|musik\nfind /musik|live\npwd\n") == (
+        0, b"album\ngig\ngig\nw music\n", "shell: year:19, musik: no file has these words, so the formula is `year:2003`; did you mean `year:1999`?\n"
+        "shell: musik: no file has this word, so the formula is `/live`; is it `music`?\n")
+
+
 BACK = "shell: find: there is no way back to this place, which is too long or has a word that nothing has any more: " \
        "say a formula that goes on from here, or `cd` elsewhere first\n"
 
@@ -504,7 +563,8 @@ def test_completion(program):
             (b"rmdir ol", [b"old"]), (b"axiom from:a", [b"from:a@x "]), (b"axiom w1 ol", [b"old"]), (b"mkdir ol", []),
             (b"ls ", offered), (b"ls -a w1", [b"w1", b"w10", b"w11"]), (b"grep x w1", [b"w1", b"w10", b"w11"]), (b"grep w1", []),
             (b"tag ot", [b"other.txt "]), (b"tag other.txt w1", [b"w1 ", b"w10 ", b"w11 "]), (b"untag w1 ot", [b"other.txt "]),
-            (b"tag old in w1|w1", [b"w1|w1", b"w1|w10", b"w1|w11"]),
+            (b"tag old in w1|w1", [b"w1|w1", b"w1|w10", b"w1|w11"]), (b"get in w1|w1", [b"w1|w1", b"w1|w10", b"w1|w11"]),
+            (b"get in old in/s", [b"in/sub\\ dir/"]), (b"get in old in ", []),
             (b"put in", [b"in/"]), (b"put in/o", [b"in/on\\ two ", b"in/one.txt "]), (b"put in/.", [b"in/.hidden "]), (b"put nosuch/", []),
             (b"put in/one.txt ", [b"one.txt "]), (b"put -w in/one.txt o", [b"one.txt "]), (b"put in/one.txt x ol", [b"old "]),
             (b"get other.txt in/s", [b"in/sub\\ dir/"]),

@@ -8,6 +8,7 @@ import pytest
 
 from lisfs.constants import MAX_ASSIGNED
 from lisfs.dumps import dumped
+from lisfs.shell.commands import LONGEST
 from lisfs.shell.undoing import UNDOABLE, place_after, tags_of
 from support.images import bytes_of, dump, make, written
 from support.shell_tables import TAKEN, library
@@ -108,6 +109,22 @@ def test_many_words(program):
             1, b"2 of 3 files changed\n", "shell: d: a file is given at most 16 words, those of the place counted\n"), "one file has no room"
         assert answer(b"undo\nundo\nrm a.b\nundo\nrm d\nundo\n")[0] == 0, "undone, also of a file with many words"
     assert given() == {"a.b": " ".join(map(bytes.decode, words[:15])), "c": "", "d": " ".join(map(bytes.decode, words[:8])) + " y"}
+
+
+def test_a_line_of_many_files(program):
+    """It may be longer than one of the program, which the shell makes commands of."""
+    names = [b"%03d-" % number + b"n" * 50 for number in range(200)]
+    make(limits=("256", "64", "8"), script=b"mkdir mine\nmkdir year:\n" + b"".join(b"create %b\n" % name for name in names))
+    before, line = dump(), b" ".join(names[:150])
+    assert len(line) > 8 * 1_024
+    with within() as answer:
+        assert answer(b"tag %b mine year:7\n" % line) == (0, b"150 of 150 files changed\n", "")
+        assert answer(b"find mine/year:7\n")[1] == b"".join(name + b"\n" for name in names[:150])
+        assert answer(b"untag mine %b\nundo\nuntag mine %b\nuntag year:7 %b\n" % (line, line, line)) == (
+            0, b"150 of 150 files changed\nundone: untag mine %b\n" % line + b"150 of 150 files changed\n" * 2, "")
+        assert answer(b"tag %b %b\nfrob %b\nfind mine\n" % (line, b"x" * LONGEST, line)) == (
+            1, b"", f"shell: tag: the line has more than {LONGEST:,} bytes\nshell: frob: the line has more than 1,024 bytes\n")
+    assert dump() == before
 
 
 # Lines over these files, each of which one `undo` undoes.
@@ -261,6 +278,38 @@ def test_questions(at_terminal):
         assert at.ends() == 0, "the end"
         assert at.shown.count(b"move it?") == 2, "nothing else was asked"
     assert given()["gig"] == "jazz music year:2003" and given()["n00"] == "", "what was done"
+
+
+def test_no_question_in_vain(at_terminal):
+    """A word that no file can be given is refused before anybody is asked, and only files that have room for it are counted."""
+    words = [b"w%02d" % number for number in range(MAX_ASSIGNED)]
+    make(limits=("64", "64", "8"), script=TAKEN + b"".join(b"mkdir %b\n" % word for word in words) + b"create full %b\n" % b" ".join(words)
+         + b"".join(b"create n%02d\n" % number for number in range(25)))
+    known = dict(line.split()[1:] for line in shell(b"stat\n")[1].splitlines())[b"known"]
+    # From then on no further word can become known.
+    fill = b"".join(b"tag n%02d year:%d\n" % (number % 25, number) for number in range(64 - int(known)))
+    assert shell(fill)[0] == 0
+    with at_terminal(NO_COLOR="1") as at:
+        at.sees(b"/> ")
+        for word, told in ((b"nosuch", b"nosuch: this word is not known; `mkdir nosuch` declares it"),
+                           (b"year:", b"year:: a file is given a value of this head, as `year:x`"),
+                           (b"ext:c", b"ext:c: files have such words on their own, and nobody gives or declares them"),
+                           (b"x" * 61, b"no word: `music`, `year:`, `year:2003` or a test"),
+                           (b"a,b", b"a,b: no word: `music`"),
+                           (b"size>=7", b"size>=7: a file has this by its size, and is not given it"),
+                           (b"year:77", b"year:77: the image has no room for more words: take some back, or take a larger image")):
+            at.types(b"tag %b in !music\n" % word)
+            assert at.sees(told) is not None, (word, at.shown[-300:])
+            at.sees(b"/> ")
+        at.types(b"untag nosuch in /\n")
+        assert at.sees(b"nosuch: this word is not known") is not None, at.shown[-300:]
+        assert b"[y/N]" not in at.shown, "nobody was asked"
+        at.types(b"tag live in !music\n")
+        assert at.sees(b"give live to 26 files? [y/N] ") is not None, ("one file has no room", at.shown[-300:])
+        rest(at.process)
+        assert at.types(b"y\n").sees(b"26 of 27 files changed\r\nfull: a file is given at most 16 words") is not None, at.shown[-300:]
+        at.types(b"exit\n")
+        assert at.ends() == 0
 
 
 def test_many_files_are_stopped(at_terminal):

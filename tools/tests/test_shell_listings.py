@@ -117,10 +117,14 @@ GREPS = (
     ("a formula", "grep hello live/!size>=20", b"bytes: the text is in it, and it has a NUL byte\n", ""), ("a sign", "grep ..o", b"", ""),
     ("no formula", "grep hello live/", b"", "live/: no formula: words with `/` (and), `|` (or), `!` (not) and parentheses, without blanks"),
     ("a formula of two words", "grep hello 'live music'", b"",
-     "live music: no formula: words with `/` (and), `|` (or), `!` (not) and parentheses, without blanks"),
+     "live music: a formula has no blanks, and `/` joins its words: `live/music`"),
     ("an unknown word", "grep hello nosuch", b"", "nosuch: this word is not known; `mkdir nosuch` declares it"),
     ("no text", "grep", b"", "grep: usage: grep [-i] TEXT [FORMULA]"), ("an empty text", "grep ''", b"", "grep: usage: grep [-i] TEXT [FORMULA]"),
-    ("too many words", "grep a live b", b"", "b: one word too many: usage: grep [-i] TEXT [FORMULA]"),
+    ("too many words", "grep a live b", b"",
+     "grep: a text with blanks needs quotes; a formula has no blanks, and `/` joins its words: `grep a live/b`"),
+    ("a text in quotes, and too many words", "grep 'a b' live !b", b"",
+     "grep: a text with blanks needs quotes; a formula has no blanks, and `/` joins its words: `grep 'a b' live/!b`"),
+    ("too many words, and no formula", "grep a live/ b/", b"", "b/: one word too many: usage: grep [-i] TEXT [FORMULA]"),
     ("a quote", "grep 'a", b"", "grep 'a: a quote is not closed"))
 
 
@@ -148,7 +152,8 @@ ABOUT = (
     ("frob", "frob: there is no such command"), ("cat", "cat: usage"), ("cat gig album", "album: one word too many"), ("cat .", f".: no name of a file, which has {FORM}"),
     ("rename gig a/b", "a/b: no name"), ("mkdir", "mkdir: usage"), ("mkdir a b", "b: one word too many"), ("mkdir a:b:c", f"a:b:c: {NO_WORD}"),
     ("create x live .y", f".y: {NO_WORD}"), ("add x y", "y: no count of bytes"), ("axiom live a/b", "a/b: no word"), ("mv gig", "mv: usage"),
-    ("mv gig live music", "music: one word too many"), ("props gig live", "live: one word too many"), ("ls music live", "live: one word too many"),
+    ("mv gig live music", "mv: a formula has no blanks, and `/` joins its words: `mv gig live/music`"), ("props gig live", "live: one word too many"),
+    ("ls music live", "ls: a formula has no blanks, and `/` joins its words: `ls music/live`"),
     ("tag gig a/b", "a/b: no word"), ("untag gig .y", ".y: no word"), ("put file gig2 .y", ".y: no word"), ("less gig live", "live: one word too many"),
     ("cd nosuch", "nosuch: this word is not known"), ("cd music/(live|nosuch)/other", "nosuch, other: these words are not known"),
     ("ls music/nosuch", "nosuch: this word"), ("find !nosuch", "nosuch: this word"), ("grep x nosuch", "nosuch: this word"),

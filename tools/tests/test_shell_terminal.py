@@ -54,6 +54,20 @@ def test_terminals(at_terminal):
         assert b"\x1b]0" not in at.shown and b"\x9b" not in at.shown and b"\xff" not in at.shown, ("nothing harms", at.shown)
 
 
+def test_a_place_without_a_word_that_no_file_has(at_terminal):
+    """At a prompt `cd` goes to the place without it."""
+    make(script=TAKEN)
+    with at_terminal(NO_COLOR="1") as at:
+        at.sees(b"/> ")
+        for line, said, place in ((b"cd live|nosuch", b"nosuch: no file has this word, so the formula is `live`", b"/live> "),
+                                  (b"cd music/nosuch", b"nosuch: this word is not known; `mkdir nosuch` declares it", b"/live> "),
+                                  (b"cd /!(year:1999|nosuch)", b"nosuch: no file has this word, so the formula is `/!year:1999`", b"/!year:1999> "),
+                                  (b"cd a b", b"cd: a formula has no blanks, and `/` joins its words: `cd a/b`", b"/!year:1999> ")):
+            assert at.types(line + b"\n").sees(said + b"\r\n") is not None and at.sees(place) is not None, (line, at.shown[-300:])
+        at.types(b"exit\n")
+        assert at.ends() == 0
+
+
 @pytest.mark.parametrize("more", ({"NO_COLOR": "1"}, {"TERM": "dumb"}), ids=("NO_COLOR", "a dumb terminal"))
 def test_no_colours(at_terminal, more):
     make(limits=("64", "64", "64"), script=TAKEN)

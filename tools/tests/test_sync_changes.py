@@ -42,7 +42,7 @@ def test_nine_cases():
     told = ["1 file changed in the image: left as the image has it",
             "1 file removed from the image: left out until changed in the folder, or --restore",
             "conflict: edit-both: top/edit-both: changed in the folder and in the image",
-            "1 conflict left: --ours keeps what the image has, --theirs takes what the folder has"]
+            "1 conflict left: --ours keeps what the image has, --theirs takes what the folder has; --ours=PATH or --theirs=PATH settles one"]
     assert sync("--as", "t", "image", "top") == (1, ["sync:t: 1 changed, 2 moved, 1 gone, 1 as they were", *told], ""), "what is told"
     now, words = contents(), held()
     assert now.get("edit-folder") == ("the folder's\n", True), "edited in the folder: it is brought in"
@@ -88,7 +88,7 @@ def test_mixed_cases():
         1, ["sync:t: 1 new, 1 changed, 1 moved, 1 gone, 1 as they were", "1 file changed in the image: left as the image has it",
             "2 files removed from the image: left out until changed in the folder, or --restore",
             "conflict: gone-edit: gone from the folder, and changed in the image",
-            "1 conflict left: --ours keeps what the image has, --theirs takes what the folder has"], ""), "what is told"
+            "1 conflict left: --ours keeps what the image has, --theirs takes what the folder has; --ours=PATH or --theirs=PATH settles one"], ""), "what is told"
     assert contents() == {
         "edit-gone": ("the folder's\n", False), "gone-edit": ("the image's\n", True), "name-edit.new": ("the image's\n", True),
         "edit-name.theirs": ("the folder's\n", True), "alike": ("the same\n", True)}, "what is there"
@@ -125,6 +125,116 @@ def test_settled_conflicts():
     assert contents("theirs") == {
         "both": ("the folder's again\n", True), "here": ("the folder's alone\n", True), "there": ("the image's\n", True)}, "it is taken"
     assert sync("--ours", "--theirs", "image", "top")[0] == 2, "not both"
+
+
+def in_conflict():
+    """Six conflicts: four files that were edited on both sides, one that is gone from the folder, and one of which nothing is known."""
+    bring_in("both", "below/one", "below/two", "top/both", "gone", "lost")
+    for name in ("both", "below/one", "below/two", "top/both"):
+        written(f"top/{name}", "the folder's\n")
+    os.remove("top/gone")
+    os.remove("top/lost")
+    with session() as program:
+        for name in (b"both", b"below+one", b"below+two", b"top+both", b"gone", b"lost"):
+            program.write(name, b"the image's\n")
+        program.rename(b"below+two", b"their-two")
+
+
+def edited():
+    """The names of the files of the image, by whose bytes they have."""
+    return {side: {name for name, (data, _) in contents().items() if data == f"the {side}'s\n"} for side in ("image", "folder")}
+
+
+LEFT = "--ours keeps what the image has, --theirs takes what the folder has; --ours=PATH or --theirs=PATH settles one"
+
+
+def test_one_conflict():
+    """One is settled by its path in the folder, or by its name in the image if the folder does not have the file, and the others are left."""
+    in_conflict()
+    status, out, said = sync("--as", "t", "--theirs=below/one", "image", "top")
+    assert (status, said, out[0], out[-1]) == (1, "", "sync:t: 1 changed, 0 as they were", f"5 conflicts left: {LEFT}")
+    assert edited() == {"image": {"both", "their-two", "top+both", "gone", "lost"}, "folder": {"below+one"}}
+    status, out, said = sync("--as", "t", "--theirs=gone", "--ours=both", "--theirs=below/two", "image", "top")
+    assert (status, said, out[0], out[-1]) == (1, "", "sync:t: 1 changed, 1 gone, 1 as they were", f"2 conflicts left: {LEFT}")
+    assert edited() == {"image": {"both", "top+both", "lost"}, "folder": {"below+one", "their-two"}}
+    assert sync("--as", "t", "--theirs=top/both", "--ours=lost", "image", "top")[:2] == (
+        0, ["sync:t: 1 changed, 2 as they were", "2 files changed in the image: left as the image has them"]), "all are settled, and stay so"
+    assert edited() == {"image": {"both", "lost"}, "folder": {"below+one", "their-two", "top+both"}}
+    assert sync("--as", "t", "image", "top")[0] == 0
+
+
+def test_all_but_one():
+    """One that is named is settled as said there, and the others as said for all; a dry run says it too."""
+    in_conflict()
+    before = dump()
+    words = "--as", "t", "--theirs", "--ours=top/below/one", "image", "top"
+    assert sync(*words[:2], "--dry-run", *words[2:])[0] == 0 and dump() == before
+    assert sync(*words)[:2] == (0, ["sync:t: 3 changed, 2 gone, 0 as they were", "1 file changed in the image: left as the image has it"])
+    assert edited() == {"image": {"below+one"}, "folder": {"both", "their-two", "top+both"}}
+
+
+def test_a_path_with_that_of_the_folder():
+    """As a conflict is shown. One within the folder comes first."""
+    in_conflict()
+    assert sync("--as", "t", "--theirs=top/both", "image", "top")[0] == 1
+    assert edited()["folder"] == {"top+both"}, "the folder has such a path"
+    assert sync("--as", "t", "--theirs=./top/below/one", f"--theirs={os.path.abspath('top/below/two')}", "image", os.path.abspath("top"))[0] == 1
+    assert edited()["folder"] == {"top+both", "their-two"}, "another folder is said"
+    assert sync("--as", "t", "--theirs=./top/below/one", "image", "top/")[0] == 1 and edited()["folder"] == {"top+both", "their-two", "below+one"}
+
+
+def test_a_name_that_a_path_has():
+    """The name in the image of one file is the path of another one, whose conflict is meant."""
+    bring_in("a/b", "a+b")
+    names = {name for name in contents() if name != "a+b"}
+    for name in ("a/b", "a+b"):
+        written(f"top/{name}", f"the folder's {name}\n")
+    with session() as program:
+        for name in ("a+b", *names):
+            program.write(name.encode(), b"the image's\n")
+    assert sync("--as", "t", "--theirs=a+b", "image", "top")[0] == 1
+    assert sorted(data for data, _ in contents().values()) == ["the folder's a+b\n", "the image's\n"]
+
+
+def test_no_conflict():
+    """A line names a path that is in no conflict, and nothing is done for it."""
+    bring_in("here", "there", "both")
+    written("top/here", "the folder's\n")
+    with session() as program:
+        program.write(b"there", b"the image's\n")
+    assert sync("--as", "t", "--ours=here", "--theirs=there", "--theirs=nosuch", "image", "top") == (
+        1, ["sync:t: 1 changed, 1 as they were", "1 file changed in the image: left as the image has it",
+            *(f"not settled: {path}: this file is in no conflict" for path in ("here", "there", "nosuch"))], "")
+    assert edited() == {"image": {"there"}, "folder": {"here"}}
+
+
+@pytest.mark.parametrize("words, told", (
+    (("--ours=a", "--theirs=a"), "a: --ours or --theirs, and not both"), (("--ours", "a"), "unrecognized arguments: top; --ours=PATH and --theirs=PATH settle"),
+    (("--ours", "--theirs"), "not allowed with"), (("--ours=",), "ignored explicit argument")))
+def test_wrong_sides(words, told):
+    make()
+    os.mkdir("top")
+    status, out, said = sync(*words, "image", "top")
+    assert status == 2 and not out and told in said.splitlines()[-1]
+
+
+def test_verbose():
+    """Each path that comes in, changes or is removed."""
+    make()
+    maildir("top/box")
+    for name in ("below/one", "two", "three"):
+        written(f"top/{name}", f"{name}\n")
+    written("top/box/cur/1:2,", mail("Plan"))
+    out = sync("--as", "t", "--verbose", "image", "top")[1]
+    name = next(name for name in held() if name.startswith("plan"))
+    assert sorted(out[:4]) == ["new: below+one: top/below/one", f"new: {name}: top/box/cur/1:2,", "new: three: top/three", "new: two: top/two"]
+    os.remove("top/below/one")
+    os.remove("top/box/cur/1:2,")
+    written("top/two", "other\n")
+    os.rename("top/three", "top/below/three")
+    status, (*out, counts), _ = sync("--as", "t", "--verbose", "image", "top")
+    assert (status, counts, sorted(out)) == (0, "sync:t: 1 changed, 1 moved, 2 gone, 0 as they were", [
+        "changed: two: top/two", "gone: below+one: top/below/one", f"gone: {name}", "moved: below+three: top/below/three"])
 
 
 def test_found_again():
@@ -184,7 +294,7 @@ def test_without_memory():
     assert sync("--as", "t", "image", "top") == (
         1, ["sync:t: nothing changed, 1 as they were", "nothing is known of earlier runs, so no difference shows who made it",
             "conflict: other: top/other: not the same in the folder and in the image", "conflict: gone: not in the folder",
-            "2 conflicts left: --ours keeps what the image has, --theirs takes what the folder has"], ""), "without a memory"
+            "2 conflicts left: --ours keeps what the image has, --theirs takes what the folder has; --ours=PATH or --theirs=PATH settles one"], ""), "without a memory"
     assert contents() == {
         "same": ("same as it was\n", True), "other": ("other as it was\n", True), "gone": ("gone as it was\n", True)}, "nothing is lost"
     written("top/same", "newer\n")

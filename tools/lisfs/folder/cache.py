@@ -12,7 +12,6 @@ import functools
 import hashlib
 import json
 import os
-import stat
 import sys
 import time
 import unicodedata
@@ -22,11 +21,9 @@ from typing import NamedTuple, Protocol, TypeAlias, TypeVar
 from lisfs import constants, derived, words
 from lisfs.dumps import STEP, WHOLE
 from lisfs.folder import addresses, forms, mails, music, walk
+from lisfs.own import folder_of, read_own, write_whole
 
 FORM = 2
-# So many bytes are read at most.
-LARGEST = 1 << 28
-
 
 # What tells a file from a changed one.
 Times: TypeAlias = list[int]
@@ -113,44 +110,6 @@ class Nothing:
 
 def cache_folder() -> str:
     return folder_of("XDG_CACHE_HOME", "~/.cache")
-
-
-def folder_of(variable: str, usual: str) -> str:
-    """The folder of this program's own files, where a variable of the environment says, or else at the usual place."""
-    top = os.environ.get(variable, "")
-    return os.path.join(top if os.path.isabs(top) else os.path.expanduser(usual), "lisfs")
-
-
-def read_own(path: str) -> bytes:
-    """The bytes of one of this program's own files. There are none if somebody else could have written it. Raises `OSError`."""
-    descriptor = os.open(path, os.O_RDONLY | os.O_NOFOLLOW | os.O_NONBLOCK | os.O_CLOEXEC)
-    with open(descriptor, "rb") as file:
-        kind = os.fstat(descriptor)
-        is_own = stat.S_ISREG(kind.st_mode) and kind.st_uid == os.geteuid() and not kind.st_mode & 0o022 and kind.st_size <= LARGEST
-        return file.read() if is_own else b""
-
-
-def write_whole(path: str, data: bytes, is_kept: bool = False) -> None:
-    """Writes a file whole or not at all, for its owner alone; and on the medium before this returns, where it is to be kept."""
-    import tempfile
-    os.makedirs(os.path.dirname(path), 0o700, exist_ok=True)
-    handle, temporary = tempfile.mkstemp(dir=os.path.dirname(path), prefix=".sync-")
-    try:
-        with open(handle, "wb") as file:
-            file.write(data)
-            file.flush()
-            if is_kept:
-                os.fsync(file.fileno())
-        os.replace(temporary, path)
-    except BaseException:
-        os.unlink(temporary)
-        raise
-    if is_kept:
-        folder = os.open(os.path.dirname(path), os.O_RDONLY | os.O_DIRECTORY | os.O_CLOEXEC)
-        try:
-            os.fsync(folder)
-        finally:
-            os.close(folder)
 
 
 @functools.cache

@@ -253,7 +253,7 @@ class Carrying:
         if refusal is None:
             self.names.discard(name)
             self.plan.removed(name)
-            self.told(Done.OLD if name in self.plan.out else Done.GONE, name)
+            self.told(Done.OLD if name in self.plan.out else Done.GONE, name, self.plan.path_of_gone(name))
         else:
             self.failed(name.decode(), cause_of(refusal, self.known))
 

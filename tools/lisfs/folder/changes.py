@@ -9,7 +9,8 @@ from __future__ import annotations
 import enum
 import hashlib
 import os
-from collections.abc import Callable, Iterable, Sequence, Set
+from collections.abc import Callable, Iterable, Mapping, Sequence, Set
+from types import MappingProxyType
 from typing import NamedTuple, TypeAlias
 
 from lisfs import derived
@@ -60,12 +61,19 @@ class Change(NamedTuple):
     is_moved: bool
 
 
-class Wishes(NamedTuple):
-    """What to do with a conflict, where it is not to be left: keep what the image has, or take what the folder has. And whether files that were
-    removed from the image come again."""
+class Side(enum.Enum):
+    """By what a conflict is settled: by what the image has, or by what the folder has."""
 
-    ours: bool = False
-    theirs: bool = False
+    OURS = "ours"
+    THEIRS = "theirs"
+
+
+class Wishes(NamedTuple):
+    """By what conflicts are settled that are not to be left: all of them, and those of files that are named. And whether files that were removed
+    from the image come again."""
+
+    side: Side | None = None
+    named: Mapping[str, Side] = MappingProxyType({})
     restore: bool = False
 
 
@@ -98,6 +106,17 @@ def key_of(entry: Entry, marker: bytes) -> str:
     return "mail:" + entry.names(marker, False)[0].decode() if entry.is_mail else "file:" + entry.found.key
 
 
+def path_of(entry: Entry) -> str:
+    """The path of a file in the folder."""
+    return os.path.join(*entry.found.parts)
+
+
+def gone_path(key: str | None) -> str | None:
+    """The same of a file that is gone, by the key of its record. Of a mail of a maildir the key does not say it."""
+    kind, _, path = (key or "").partition(":")
+    return path if kind == "file" else None
+
+
 def base_of(key: str) -> str:
     """The name that a key ends with."""
     return os.path.basename(key.partition(":")[2])
@@ -108,19 +127,22 @@ class Changes:
     Entries that can't be taken are `refused`: what the image holds of them stays. `beyond` counts the words that are too many for a file,
     and `beyond_files` the files that they belong to.
 
-    `conflicts` are left, `edited` are the names of files that stay as the image has them, `away` the paths of those that stay away from it, and
-    `renamed` are those that have another name in the image. `unseen` counts files that are not removed, since not all of the folder was seen.
+    `conflicts` are left, `settled` has the names in `wishes.named` by which one was settled, `edited` are the names of files that stay as the
+    image has them, `away` the paths of those that stay away from it, and `renamed` are those that have another name in the image. `unseen`
+    counts files that are not removed, since not all of the folder was seen.
     `older` counts files that are older than those that are wanted and don't come in, `out` has the names of those in `gone` that go for this
     reason alone, and `staying` counts those that stay all the same, since somebody changed them in the image.
-    `records` say what is so before any change, and what was done after it. `bytes_of` gives the bytes of a file of the image."""
+    `records` say what is so before any change, and what was done after it. `bytes_of` gives the bytes of a file of the image, and
+    `top` is the path of the folder."""
 
     def __init__(self, entries: Iterable[Entry], dump: Dump, marker: bytes, is_lean: bool = False, records: Records | None = None,
-                 wishes: Wishes = Wishes(), is_blind: bool = False, bytes_of: Callable[[bytes], bytes] | None = None) -> None:
-        self.marker, self.dump, self.is_lean, self.wishes, self.is_blind = marker, dump, is_lean, wishes, is_blind
+                 wishes: Wishes = Wishes(), is_blind: bool = False, bytes_of: Callable[[bytes], bytes] | None = None, top: str = "") -> None:
+        self.marker, self.dump, self.is_lean, self.wishes, self.is_blind, self.top = marker, dump, is_lean, wishes, is_blind, top
         self.changes: list[Change] = []
         self.gone: list[bytes] = []
         self.refused: list[Entry] = []
         self.conflicts: list[Conflict] = []
+        self.settled: set[str] = set()
         self.edited: list[str] = []
         self.away: list[str] = []
         self.renamed: list[Renamed] = []
@@ -135,6 +157,7 @@ class Changes:
         self.gone_keys: dict[bytes, str | None] = {}
         self.records = settled(records or {}, self._digest)
         self.keyed = keyed = [(key_of(entry, marker), entry) for entry in entries]
+        self.paths = {path_of(entry) for _, entry in keyed}
         self._find_renamed()
         self.waiting: set[str] = set()
         self.moved = self._find_moved(keyed)
@@ -332,16 +355,25 @@ class Changes:
         elif record and record.folder == folder:
             self.edited.append(name)
             self._change(key, entry, name)
-        elif record and record.image == image or self.wishes.theirs:
+        elif record and record.image == image or self._side(path_of(entry), name) is Side.THEIRS:
             self._change(key, entry, name, has_other_bytes=True)
         else:
-            if self.wishes.ours:
+            if self._side(path_of(entry), name) is Side.OURS:
                 # That the folder has other bytes was seen, and the image has others than were brought in as before.
                 self.records[key] = Record(name, made, folder, NOTHING, seen=image)
                 self.edited.append(name)
             else:
                 self.conflicts.append(Conflict(f"{name}: {entry.found.path}", BOTH if record else UNKNOWN))
             self._change(key, entry, name)
+
+    def _side(self, path: str | None, name: str) -> Side | None:
+        """By what the conflict of a file is settled, or None if it is left. It is named by its path in the folder, or, if that is the path of no
+        file, by its name in the image."""
+        for named in (path, None if name in self.paths else name):
+            if named is not None and named in self.wishes.named:
+                self.settled.add(named)
+                return self.wishes.named[named]
+        return self.wishes.side
 
     def _looked_at(self, key: str | None, name: str) -> Record | None:
         """The record of a file, which then says which bytes the image has of it, if these are others than were brought in."""
@@ -426,10 +458,10 @@ class Changes:
         record = self._looked_at(key, name)
         if record and record.folder is None:
             self.edited.append(name)
-        elif record and record.image == self._digest(name) or self.wishes.theirs:
+        elif record and record.image == self._digest(name) or self._side(gone_path(key), name) is Side.THEIRS:
             self.gone.append(name.encode())
             self.gone_keys[name.encode()] = key
-        elif self.wishes.ours:
+        elif self._side(gone_path(key), name) is Side.OURS:
             # Where it is not known what was brought in, no bytes are those.
             self.records[key or "image:" + name] = Record(name, name, None, record.image if record else NOTHING, seen=self._digest(name))
             self.edited.append(name)
@@ -494,6 +526,11 @@ class Changes:
     def removed(self, name: bytes) -> None:
         if key := self.gone_keys[name]:
             self.records.pop(key, None)
+
+    def path_of_gone(self, name: bytes) -> str:
+        """The path that a file had which is gone, if it is known."""
+        path = gone_path(self.gone_keys[name])
+        return os.path.join(self.top, path) if path else ""
 
     def heads(self) -> list[bytes]:
         """The heads that have to be declared, in the order of their importance."""

@@ -33,7 +33,7 @@ from collections.abc import Callable, Sequence, Set
 from typing import NamedTuple, TypeAlias
 
 from lisfs.constants import MAX_WORD
-from lisfs.folder.cache import folder_of, read_own, write_whole
+from lisfs.own import read_own, state_folder, write_whole
 
 FORM, WORD, DIGITS = 1, b"synced-", 20
 # So many memories of an image and a folder are kept: the one that a run writes, and those of runs before, which copies and backups may name.
@@ -85,7 +85,7 @@ class Memory:
     """The memories of one folder, by its marker, in one image, by its path."""
 
     def __init__(self, marker: bytes, image: str) -> None:
-        self.marker, self.image, self.top = marker, os.path.realpath(image), folder_of("XDG_STATE_HOME", "~/.local/state")
+        self.marker, self.image, self.top = marker, os.path.realpath(image), state_folder()
         digest = hashlib.sha256(os.fsencode(self.image) + b"\0" + marker).hexdigest()[:32]
         self.list = os.path.join(self.top, f"image-{digest}.json")
 

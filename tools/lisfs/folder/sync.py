@@ -1,6 +1,6 @@
 """Brings a folder or a maildir into an image, again and again: what is new, what has changed, and what is gone.
 
-usage: tools/sync [--as NAME] [--without PATTERN].. [--since DATE] [--newest N] [--reserve NUMBER] [--flat] [--lean] [--dry-run] [--verbose] [--all-gone] [--no-cache] [--ours | --theirs] [--restore] IMAGE FOLDER
+usage: tools/sync [--as NAME] [--without PATTERN].. [--since DATE] [--newest N] [--reserve NUMBER] [--flat] [--lean] [--dry-run] [--verbose] [--all-gone] [--no-cache] [--ours[=PATH] | --theirs[=PATH]].. [--restore] IMAGE FOLDER
 
 The folder's own files have the word `sync:NAME` in the image. --as says which NAME, of at most 55 letters, digits and `_ - . + @`. Without it
 NAME is the folder's name and four digits that depend on its path. Only files with this word are written, given other words or removed: what
@@ -9,7 +9,8 @@ which are the folder's.
 
 What was changed in the image is never overwritten and never removed. A file that has other bytes only in the image keeps them. A file that
 has other bytes both there and in the folder, or is gone from the folder, is a conflict: it is named, and left. --ours settles conflicts by
-what the image has, and --theirs by what the folder has. A file that was renamed in the image keeps that name, also if it was edited there too.
+what the image has, and --theirs by what the folder has. --ours=PATH and --theirs=PATH settle the conflict of one file, and may be repeated:
+PATH is its path in the folder, or, of a file that the folder does not have, its name in the image. A file that was renamed in the image keeps that name, also if it was edited there too.
 One that was removed from it stays away until it changes in the folder; --restore brings such files back. A file that was renamed or moved in
 the folder is found again by its bytes, and keeps the words that it was given.
 
@@ -51,7 +52,7 @@ Words that do not fit are counted: those beyond the 16 that a file is given, the
 for it. A search by a derived word can miss a file whose words are cut.
 
 --dry-run says what it would do, one line a file. It works on a copy of the image below the temporary folder, and no byte of the image
-changes. --verbose says what is done in the same way. The counts come at the end, and on a terminal there is a line of progress. If none of its
+changes. --verbose says what is done in the same way: each path that comes in, changes or is removed. The counts come at the end, and on a terminal there is a line of progress. If none of its
 files is in the folder any more, for example because a disk is not mounted, nothing is done, except with --all-gone. If some of the folder could
 not be read, nothing is removed.
 
@@ -64,6 +65,7 @@ import argparse
 import contextlib
 import hashlib
 import os
+import re
 import signal
 import struct
 import sys
@@ -78,7 +80,7 @@ from lisfs.dumps import Dump, NotADump
 from lisfs.endings import folder_fault, quiet
 from lisfs.folder.cache import Cache, Nothing, Remembered
 from lisfs.folder.carrying import Carrying, NoRoom, Sender, session_word
-from lisfs.folder.changes import MARKER, Changes, Done, Wishes, folder_words
+from lisfs.folder.changes import MARKER, Changes, Done, Side, Wishes, folder_words
 from lisfs.folder.entries import Entries
 from lisfs.folder.forms import folder_value
 from lisfs.folder.memory import Memory, Records
@@ -96,6 +98,8 @@ COUNTED = {Done.NEW: "new", Done.CHANGED: "changed", Done.MOVED: "moved", Done.W
            Done.OLD: "removed as older"}
 # So many conflicts are named in any case.
 NAMED = 10
+# The option that settles the conflict of one file. The path follows `=`, since the next word of the command line is the image or the folder.
+ONE_SIDE = re.compile(r"--(ours|theirs)=(.+)", re.S)
 
 
 class Failed(Exception):
@@ -127,8 +131,8 @@ class Options(argparse.Namespace):
     verbose: bool
     all_gone: bool
     no_cache: bool
-    ours: bool
-    theirs: bool
+    side: Side | None
+    named: dict[str, Side]
     restore: bool
     image: str
     folder: str
@@ -201,9 +205,11 @@ class Sync:
         return entries, remembered
 
     def make_plan(self, entries: Entries, dump: Dump, program: Program) -> Changes:
-        wishes = Wishes(self.words.ours, self.words.theirs, self.words.restore)
+        named = {within(self.folder, path): side for path, side in self.words.named.items()}
+        wishes = Wishes(self.words.side, named, self.words.restore)
         self.known = self.memory.read(dump.declared)
-        plan = Changes(entries.all, dump, self.marker, self.words.lean, self.known, wishes, entries.walk.is_blind, lambda name: program.cat(name).body)
+        plan = Changes(entries.all, dump, self.marker, self.words.lean, self.known, wishes, entries.walk.is_blind, lambda name: program.cat(name).body,
+                       self.folder)
         if plan.own and not plan.kept and not plan.is_blind and not self.words.all_gone:
             raise Failed(f"nothing was done: none of the {counted(plan.own, 'file')} of {self.marker.decode()} is in {self.folder} any "
                          "more; --all-gone removes them anyway")
@@ -326,11 +332,18 @@ class Sync:
             for text, why in named:
                 tell(f"conflict: {harmless(text)}: {why}")
             more = f" ({len(plan.conflicts) - len(named)} not named: --verbose)" if len(named) < len(plan.conflicts) else ""
-            tell(f"{counted(len(plan.conflicts), 'conflict')} left{more}: --ours keeps what the image has, --theirs takes what the folder has")
+            tell(f"{counted(len(plan.conflicts), 'conflict')} left{more}: --ours keeps what the image has, --theirs takes what the folder has; "
+                 "--ours=PATH or --theirs=PATH settles one")
+        for path in self.unsettled():
+            tell(f"not settled: {harmless(path)}: this file is in no conflict")
+
+    def unsettled(self) -> list[str]:
+        """The paths that --ours and --theirs name, and that are in no conflict."""
+        return [path for path in self.plan.wishes.named if path not in self.plan.settled] if self.plan else []
 
     def is_whole(self) -> bool:
         plan, carrying = self.plan, self.carrying
-        if self.telling.not_taken or self.unkept or plan and (plan.unseen or plan.conflicts):
+        if self.telling.not_taken or self.unkept or plan and (plan.unseen or plan.conflicts) or self.unsettled():
             return False
         return not (carrying and (carrying.without or carrying.too_many or carrying.lean or carrying.is_forgetful))
 
@@ -341,6 +354,15 @@ def own_files(image: str) -> list[os.stat_result]:
     with contextlib.suppress(OSError):
         found.append(os.lstat(socket_of(image)))
     return found
+
+
+def within(folder: str, path: str) -> str:
+    """The path of a file in a folder, which may be said with that of the folder before it, as a conflict is shown."""
+    path = os.path.normpath(path)
+    if not os.path.isabs(path) and os.path.lexists(os.path.join(folder, path)):
+        return path
+    below = os.path.relpath(path, folder)
+    return below if path.startswith(os.path.normpath(folder) + os.sep) and os.path.lexists(os.path.join(folder, below)) else path
 
 
 def no_words(_: Sequence[str]) -> list[bytes]:
@@ -366,6 +388,13 @@ def stop(*_: object) -> NoReturn:
     raise Stopped
 
 
+def apart(given: Sequence[str]) -> tuple[list[str], list[tuple[str, Side]]]:
+    """The words of a command line without those that settle one conflict, and these: each a path and a side."""
+    end = given.index("--") if "--" in given else len(given)
+    named = [(found[2], Side(found[1])) for found in map(ONE_SIDE.fullmatch, given[:end]) if found]
+    return [word for number, word in enumerate(given) if number >= end or not ONE_SIDE.fullmatch(word)], named
+
+
 def options() -> Options:
     """What the command line says. Ends where that is wrong use."""
     parser = argparse.ArgumentParser(usage=__doc__.split("usage: ", 1)[1])
@@ -381,12 +410,19 @@ def options() -> Options:
     parser.add_argument("--all-gone", action="store_true")
     parser.add_argument("--no-cache", action="store_true")
     sides = parser.add_mutually_exclusive_group()
-    sides.add_argument("--ours", action="store_true")
-    sides.add_argument("--theirs", action="store_true")
+    for side in Side:
+        sides.add_argument(f"--{side.value}", dest="side", action="store_const", const=side)
     parser.add_argument("--restore", action="store_true")
     parser.add_argument("image")
     parser.add_argument("folder")
-    words = parser.parse_args(namespace=Options())
+    given, named = apart(sys.argv[1:])
+    words = Options(named=dict(named))
+    _, others = parser.parse_known_args(given, words)
+    if others:
+        hint = "; --ours=PATH and --theirs=PATH settle one conflict" if words.side and not others[0].startswith("-") else ""
+        parser.error(f"unrecognized arguments: {harmless(' '.join(others))}{hint}")
+    if twice := [path for path, side in named if words.named[path] is not side]:
+        parser.error(f"{harmless(twice[0])}: --ours or --theirs, and not both")
     longest = MAX_WORD - len(MARKER + b":")
     if words.name is not None and not (PLAIN_RUN.fullmatch(os.fsencode(words.name)) and len(words.name) <= longest):
         parser.error(f"{harmless(words.name)} is no name: it has 1 to {longest} {PLAIN_FORM}")

@@ -5,7 +5,8 @@ usage: tools/shell IMAGE
 `help` lists the commands: those of `lisfs run`, and `put` and `get`, which copy files in and out, `tag` and `untag`, which change the words of
 several files, `undo`, `find`, `grep` and `less`. `ls` lists other places too, and counts. Ctrl-C stops a line, and `quit` or Ctrl-D ends the
 prompt. What is longer than the terminal is shown by `$PAGER`, or `less`; an empty `$PAGER`, or `cat`, turns this off. The lines that you
-type are kept in `$XDG_STATE_HOME/lisfs/shell_history`, or below `~/.local/state`. If `$NO_COLOR` is set there are no colours.
+type are kept in `$XDG_STATE_HOME/lisfs/shell_history`, or below `~/.local/state`, and beside it the last change, for `undo` of the next
+shell. If `$NO_COLOR` is set there are no colours.
 
 If the image is served (`tools/serve IMAGE`), the prompt is a client of its server, and sees what other clients change.
 
@@ -26,6 +27,7 @@ from lisfs.endings import quiet
 from lisfs.image import limits_of
 from lisfs.opening import opened
 from lisfs.shell.completing import Completer
+from lisfs.shell.earlier import Earlier
 from lisfs.shell.running import Shell, as_a_script, at_a_prompt
 from lisfs.shell.session import Session
 from lisfs.shell.terminal import History, Interrupts, Screen, Stopped, history_path
@@ -40,13 +42,17 @@ def run(image: str, screen: Screen) -> int:
     # Ctrl-C is for the shell alone, and the program comes to its end.
     with program:
         session = Session(program, dump, limits_of(image), screen.interrupts.ask)
-        shell = Shell(session, screen)
+        earlier = Earlier(image, session)
+        shell = Shell(session, screen, earlier)
         try:
             if not screen.asks:
-                return 0 if as_a_script(shell) else 1
+                is_fine = as_a_script(shell)
+                earlier.keep()
+                return 0 if is_fine else 1
             screen.lines([f"{harmless(os.fsencode(image))}: {len(dump.files):,} files. `help` lists the commands, Ctrl-D ends."])
             Completer(session, screen).install()
             at_a_prompt(shell, History(history_path()))
+            earlier.keep()
             return 0
         except NotAReply:
             # No later reply can be told.

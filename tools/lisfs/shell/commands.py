@@ -5,14 +5,16 @@ import textwrap
 from typing import NamedTuple
 
 from lisfs.constants import (
-    ALREADY_DECLARED, AXIOM_THERE, BAD_FORMULA, BUILT_IN, CYCLE, IN_USE, LARGE_DESCRIPTION, LARGE_FILE, LARGE_FORMULA, NAME_TAKEN, NO_AXIOM,
-    NO_AXIOM_ROOM, NO_FILE_HERE, NO_FILE_ROOM, NO_PROPERTY_ROOM, NO_SPACE, NOT_A_PLACE, NOT_ASSIGNABLE, NOT_DECLARED, TOO_MANY_ASSIGNED,
-    UNKNOWN_PROPERTY)
+    ALREADY_DECLARED, AXIOM_THERE, BAD_FORMULA, BUILT_IN, CYCLE, IN_USE, LARGE_DESCRIPTION, LARGE_FILE, LARGE_FORMULA, MAX_ASSIGNED, MAX_FILES,
+    MAX_LINE, MAX_WORD, NAME_TAKEN, NO_AXIOM, NO_AXIOM_ROOM, NO_FILE_HERE, NO_FILE_ROOM, NO_PROPERTY_ROOM, NO_SPACE, NOT_A_PLACE, NOT_ASSIGNABLE,
+    NOT_DECLARED, TOO_MANY_ASSIGNED, UNKNOWN_PROPERTY)
 from lisfs.refusals import meaning
 from lisfs.shell.undoing import UNDOABLE
 
 # So many words of a head a listing shows on a terminal, and so many files are changed at once before somebody is asked.
 SOME, ASKED = 20, 20
+# A line of `tag` and `untag` may name all files of an image, and as many words as a file is given. The shell makes commands of it.
+LONGEST = (1 + MAX_FILES + MAX_ASSIGNED) * (MAX_WORD + 1)
 
 
 class Part(enum.Enum):
@@ -74,10 +76,12 @@ COMMANDS = {
                        "you are."),
     "cd": command("cd FORMULA", "goes to a place", Part.FORMULA, refusals=LEADS,
                   more="`/` is and, `|` is or, `!` is not, `size>=N` and `size<N` test the bytes. A formula that begins with `/` starts at the root, "
-                       "any other goes on from here; `..` drops the last step."),
+                       "any other goes on from here; `..` drops the last step. At a terminal a word that no file has "
+                       "matches nothing on one side of `|`."),
     "pwd": command("pwd", "shows the place"),
-    "find": command("find [FORMULA]", "shows all files of a place, one a line", Part.FORMULA, needed=0,
-                    refusals=LEADS, more="The formula is written as in `cd`. Without one it is this place. You stay where you are."),
+    "find": command("find [FORMULA]", "shows all files of a place, one a line", Part.FORMULA, needed=0, refusals=LEADS,
+                    more="The formula is written as in `cd`. Without one it is this place. On one side of `|` a word that no file has matches "
+                         "nothing. You stay where you are."),
     "grep": command("grep [-i] TEXT [FORMULA]", "shows lines of files that have a text", Part.TEXT, Part.FORMULA, needed=1, refusals=LEADS,
                     more="Each is shown as NAME:NUMBER:LINE, of all files of the place to which the formula leads. The text stands for itself, "
                          "and may be in quotes; -i takes small and large letters as the same. Of a file with a NUL byte it shows only that the "
@@ -96,7 +100,8 @@ COMMANDS = {
                         "here already, it gets the bytes and keeps its words, if you say yes, or -w. Quotes, and `\\` before a blank, are as in "
                         "other shells."),
     "get": command("get NAME [FILE]", "writes a file's bytes to a file of the system", Part.FILE, Part.PATH, needed=1, refusals=(NO_FILE_HERE,),
-                   more="FILE may be a folder; without it NAME is taken. A file that is there is not written over, unless you say yes."),
+                   more="FILE may be a folder; without it NAME is taken. `get in FORMULA FOLDER` copies all files of a place to a folder. A file that "
+                        "is there is not written over, unless you say yes."),
     "create": command("create NAME WORD..", "makes an empty file", Part.NEW_FILE, Part.GIVEN, needed=1, repeats=True, refusals=CREATES,
                       more="It has these words and those of the place."),
     "add": command("add NAME N WORD..", "makes a file of the N bytes that follow", Part.NEW_FILE, Part.COUNT, Part.GIVEN, needed=2, repeats=True,
@@ -129,13 +134,19 @@ COMMANDS = {
                      refusals=(NOT_ASSIGNABLE, UNKNOWN_PROPERTY, AXIOM_THERE, CYCLE, NO_AXIOM_ROOM, NO_PROPERTY_ROOM, LARGE_DESCRIPTION)),
     "unaxiom": command("unaxiom LEFT RIGHT", "removes that axiom", Part.KNOWN, Part.DECLARED, refusals=(NO_AXIOM,)),
     "undo": command("undo", "undoes the last change",
-                    more=f"Each further `undo` undoes the change before it. The last {UNDOABLE} changes of this shell are kept. There is no redo."),
+                    more=f"Each further `undo` undoes the change before it. The last {UNDOABLE} changes of this shell are kept, and then the last one "
+                         "of the shell before, which is undone only while the image is as it left it. There is no redo."),
     "help": command("help [COMMAND]", "explains all commands, or one", Part.COMMAND, needed=0),
     "exit": command("exit", "ends, as Ctrl-D does"),
     "quit": command("quit", "ends, as Ctrl-D does"),
 }
 # Those that the program does not know.
 OWN = ("find", "grep", "less", "put", "get", "tag", "untag", "undo", "help", "exit", "quit")
+
+
+def most_of_line(command: bytes) -> int:
+    """How many bytes a line of a command has at most."""
+    return LONGEST if command in (b"tag", b"untag") else MAX_LINE
 
 
 def all_in_lines() -> list[str]:

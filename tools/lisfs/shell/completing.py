@@ -17,6 +17,8 @@ if HAS_READLINE:
 BLANKS = b" \t\n"
 # The most of what may stand there that is shown.
 SHOWN = 120
+# What follows `get in`, and `in` itself.
+GET_IN = (Part.TEXT, Part.FORMULA, Part.PATH)
 # A word of a line in which a backslash stands before a blank.
 PIECE = re.compile(rb"(?:\\.|[^\\ \t\n])*\\?", re.S)
 ESCAPED = re.compile(rb"([\\ \t\n'\"])")
@@ -101,12 +103,13 @@ class Completer:
             return []
         while given[:1] and given[0] in command.flags:
             given = given[1:]
-        if len(given) >= len(command.parts) and not command.repeats:
+        parts = GET_IN if before[0].text == b"get" and given[:1] == [b"in"] else command.parts
+        if len(given) >= len(parts) and not command.repeats:
             return []
-        part = command.parts[min(len(given), len(command.parts) - 1)]
+        part = parts[min(len(given), len(parts) - 1)]
         if part is Part.FILE_OR_WORD and given[1:] == [b"in"]:
             part = Part.FORMULA
-        has_more = command.repeats or len(given) + 1 < len(command.parts)
+        has_more = command.repeats or len(given) + 1 < len(parts)
         return self._of(part, piece, given, b" " if has_more else b"")
 
     def _of(self, part: Part, piece: bytes, given: list[bytes], behind: bytes) -> Iterable[bytes]:

@@ -4,15 +4,16 @@ The program tells a number. Which of several words is meant is found out here, b
 it can't be, the sentence names the line's own words.
 """
 import difflib
-from collections.abc import Callable, Iterable
+import shlex
+from collections.abc import Callable, Iterable, Sequence
 from typing import TypeAlias
 
 from lisfs import constants
 from lisfs.client import Refused, words_of
-from lisfs.constants import MAX_ASSIGNED, MAX_DESCRIPTION, MAX_DIGITS, MAX_FORMULA, MAX_LINE, MAX_NODES, MAX_PAYLOAD
+from lisfs.constants import MAX_ASSIGNED, MAX_DESCRIPTION, MAX_DIGITS, MAX_FORMULA, MAX_NODES, MAX_PAYLOAD
 from lisfs.formulas import words_in
-from lisfs.refusals import meaning
-from lisfs.shell.commands import COMMANDS, FILES, WORDS, Part
+from lisfs.refusals import MEANT, meaning, without_blanks
+from lisfs.shell.commands import COMMANDS, FILES, WORDS, Part, most_of_line
 from lisfs.shell.session import Session
 from lisfs.showing import harmless
 from lisfs.words import NAME_FORM, head_of, is_built_in, is_file_name, is_head, is_plain, is_test, is_word
@@ -33,10 +34,23 @@ def said(*words: bytes) -> str:
     return ", ".join(map(harmless, words))
 
 
+def of_files(count: int) -> str:
+    return "1 file" if count == 1 else f"{count:,} files"
+
+
 def meant(word: bytes, among: Iterable[bytes]) -> str:
     """A question for the word that may have been meant."""
     near = difflib.get_close_matches(harmless(word), map(harmless, among), 1, 0.75)
     return f"; is it `{near[0]}`?" if near else ""
+
+
+def values_meant(words: Sequence[bytes], session: Session) -> str:
+    """A question for the words that may have been meant: those that begin as a value does, or else one that is near."""
+    for word in filter(head_of, words):
+        if found := session.beginning(word):
+            named = ", ".join(f"`{harmless(value)}`" for value in found[:MEANT])
+            return f"; did you mean {named}{', ..' if len(found) > MEANT else ''}?"
+    return meant(words[0], [value for value in session.known() if head_of(value) == head_of(words[0]) and not is_head(value)])
 
 
 def sentence(refused: Refused, line: bytes, session: Session) -> str:
@@ -54,7 +68,8 @@ def bad_line(command: str, given: Words, _: object) -> str:
         return f"{harmless(command.encode())}: there is no such command{near or '; `help` lists all'}"
     form, parts = COMMANDS[command], COMMANDS[command].parts
     if len(given) > len(parts) and not form.repeats:
-        return f"{harmless(given[len(parts)])}: one word too many: usage: {form.form}"
+        hint = with_blanks(command, given, len(parts) - 1) if parts[-1:] == (Part.FORMULA,) else None
+        return hint or f"{harmless(given[len(parts)])}: one word too many: usage: {form.form}"
     if len(given) >= form.needed:
         for word, part in zip(given, parts + parts[-1:] * len(given)):
             if part in FILES and not is_file_name(word):
@@ -66,8 +81,17 @@ def bad_line(command: str, given: Words, _: object) -> str:
     return f"{command}: usage: {form.form}"
 
 
+def with_blanks(command: str, given: Words, at: int, after: int = 0) -> str | None:
+    """A sentence for a line whose formula begins at word `at` and has blanks, and has `after` words after it; None if its words make no formula."""
+    end = len(given) - after
+    first, last = ([shlex.quote(harmless(word)) for word in words] for words in (given[:at], given[end:]))
+    hint = without_blanks(given[at:end], " ".join([command, *first, ""]), " ".join(["", *last]))
+    # In a line of `grep` the text may be what has blanks.
+    return hint and f"{command}: {'a text with blanks needs quotes; ' if command == 'grep' else ''}{hint}"
+
+
 def long_line(command: str, given: Words, session: Session) -> str:
-    return f"{harmless(command.encode())[:60]}: the line has more than {MAX_LINE:,} bytes"
+    return f"{harmless(command.encode())[:60]}: the line has more than {most_of_line(command.encode()):,} bytes"
 
 
 def cut_payload(command: str, given: Words, session: Session) -> str:
@@ -79,7 +103,8 @@ def payload_end(command: str, given: Words, session: Session) -> str:
 
 
 def formula(command: str, given: Words, session: Session) -> str:
-    return f"{said(given[-1])}: no formula: words with `/` (and), `|` (or), `!` (not) and parentheses, without blanks"
+    hint = without_blanks(given[-1].split())
+    return f"{said(given[-1])}: {hint or 'no formula: words with `/` (and), `|` (or), `!` (not) and parentheses, without blanks'}"
 
 
 def unknown(command: str, given: Words, session: Session) -> str:
@@ -99,7 +124,7 @@ def unknown(command: str, given: Words, session: Session) -> str:
     first = words[0]
     is_value = not is_plain(first) and not is_head(first) and not is_test(first)
     if is_built_in(first) or is_value and head_of(first) in session.declared:
-        return f"{said(*words)}: no file has it"
+        return f"{said(*words)}: no file has {'it' if len(words) == 1 else 'them'}{values_meant(words, session)}"
     needed = is_value and head_of(first) or first
     if first in session.names:
         return f"{said(first)}: this is the name of a file, and no word"

@@ -2,12 +2,14 @@
 from __future__ import annotations
 
 import contextlib
-from collections.abc import Iterable, Iterator, Sequence
+from collections.abc import Callable, Iterable, Iterator, Sequence
 
 from lisfs.client import NotSent, Refused
+from lisfs.constants import UNKNOWN_PROPERTY
 from lisfs.listings import TITLES, Count, groups_of, within
+from lisfs.refusals import left_out
 from lisfs.shell.commands import COMMANDS, SOME
-from lisfs.shell.explaining import Failed, bad_line, sentence
+from lisfs.shell.explaining import Failed, bad_line, sentence, values_meant
 from lisfs.shell.explaining import formula as no_formula
 from lisfs.shell.session import Counted, NoWayBack, Session
 from lisfs.shell.terminal import WORD as WORD_COLOUR
@@ -19,10 +21,12 @@ LONGEST = 500
 
 
 @contextlib.contextmanager
-def elsewhere(session: Session, command: str, formula: bytes | None) -> Iterator[None]:
+def elsewhere(session: Session, screen: Screen, command: str, formula: bytes | None) -> Iterator[None]:
     """At the place to which a formula leads, or here."""
     try:
-        with session.away(formula) if formula is not None else contextlib.nullcontext():
+        with contextlib.ExitStack() as stack:
+            if formula is not None:
+                go(session, screen, formula, lambda to: stack.enter_context(session.away(to)))
             yield
     except NoWayBack:
         raise Failed(f"{command}: there is no way back to this place, which is too long or has a word that nothing has any more: "
@@ -34,9 +38,27 @@ def elsewhere(session: Session, command: str, formula: bytes | None) -> Iterator
         raise Failed(sentence(refused, b"cd %b" % (formula or b"/"), session)) from None
 
 
+def go(session: Session, screen: Screen, formula: bytes, call: Callable[[bytes], object]) -> None:
+    """Goes to the place of a formula by a call. If no file has a word on one side of `|`, that side is left out, and a line says so."""
+    try:
+        call(formula)
+    except Refused as refused:
+        instead = session.instead_of(formula) if refused.number == UNKNOWN_PROPERTY else None
+        if instead is None:
+            raise
+        call(instead.formula)
+        screen.note(left_out(instead) + values_meant(instead.unused, session))
+
+
 class Looking:
     def __init__(self, session: Session, screen: Screen) -> None:
         self.session, self.screen = session, screen
+
+    # Places.
+
+    def cd(self, line: bytes, formula: bytes) -> None:
+        """Goes to a place."""
+        go(self.session, self.screen, formula, lambda to: self.session.carry_out(line if to == formula else b"cd " + to))
 
     # Listings.
 
@@ -46,7 +68,7 @@ class Looking:
         formulas = [word for word in given if word not in flags]
         if len(formulas) > 1 or given[:len(flags)] != flags:
             raise Failed(bad_line("ls", formulas, self.session))
-        with elsewhere(self.session, "ls", formulas[0] if formulas else None):
+        with elsewhere(self.session, self.screen, "ls", formulas[0] if formulas else None):
             if b"-c" in flags:
                 lines = self.with_counts(self.session.counted())
             elif self.screen.asks:
@@ -90,7 +112,7 @@ class Looking:
     def find(self, given: list[bytes]) -> None:
         if len(given) > 1:
             raise Failed(bad_line("find", given, self.session))
-        with elsewhere(self.session, "find", given[0] if given else None):
+        with elsewhere(self.session, self.screen, "find", given[0] if given else None):
             names = [file.name for file in self.session.files()]
         self.screen.many([harmless(name) for name in names])
 
@@ -100,7 +122,7 @@ class Looking:
         if not 1 <= len(given) <= 2 or not given[0]:
             raise Failed(bad_line("grep", given, self.session))
         found: list[bytes] = []
-        with elsewhere(self.session, "grep", given[1] if len(given) > 1 else None):
+        with elsewhere(self.session, self.screen, "grep", given[1] if len(given) > 1 else None):
             for file, content in self.session.contents(self.session.files()):
                 found += matches(file.name, content, given[0], is_small)
         if self.screen.is_terminal:

@@ -1,24 +1,21 @@
 """Carries out the lines of somebody at a terminal, or of a script: those of the program, and those that the shell has of its own."""
-import contextlib
 import os
-import shlex
-import shutil
-import stat
 from collections.abc import Callable, Iterator, Sequence
-from typing import NoReturn
 
 from lisfs import derived
 from lisfs.client import CONTENT, LINES, Item, Items, NotSent, Refused, Reply, words_of
-from lisfs.constants import MAX_LINE, MAX_PAYLOAD
+from lisfs.constants import MAX_LINE
 from lisfs.formulas import words_in
-from lisfs.shell.commands import COMMANDS, all_in_lines, told
+from lisfs.shell.commands import COMMANDS, LONGEST, all_in_lines, most_of_line, told
+from lisfs.shell.copying import Copying, in_quotes
+from lisfs.shell.earlier import Earlier
 from lisfs.shell.explaining import Failed, bad_line, sentence
 from lisfs.shell.looking import Looking
 from lisfs.shell.session import Session
 from lisfs.shell.tagging import Tagging
 from lisfs.shell.terminal import INPUT, History, Interrupts, Screen, Stopped
 from lisfs.showing import harmless
-from lisfs.words import NAME_FORM, head_of, is_file_name, is_word
+from lisfs.words import head_of
 
 PIECE = 65_536
 
@@ -28,12 +25,12 @@ class Over(Exception):
 
 
 class Shell:
-    def __init__(self, session: Session, screen: Screen) -> None:
+    def __init__(self, session: Session, screen: Screen, earlier: Earlier | None = None) -> None:
         self.session, self.screen, self.interrupts, self.has_told_misses = session, screen, screen.interrupts, False
-        self.looking, self.tagging = Looking(session, screen), Tagging(session, screen)
+        self.looking, self.tagging, self.copying = Looking(session, screen), Tagging(session, screen, earlier), Copying(session, screen)
         self.own: dict[bytes, Callable[[bytes, list[bytes]], None]] = {
-            b"put": self.put, b"get": self.get, b"help": self.help, b"exit": self.exit, b"quit": self.exit,
-            b"find": lambda _, given: self.looking.find(given), b"grep": lambda line, _: self.looking.grep(self.in_quotes(line)),
+            b"put": self.copying.put, b"get": self.copying.get, b"help": self.help, b"exit": self.exit, b"quit": self.exit,
+            b"find": lambda _, given: self.looking.find(given), b"grep": lambda line, _: self.looking.grep(in_quotes(line)),
             b"less": lambda _, given: self.looking.less(given), b"tag": self.tagging.tag, b"untag": self.tagging.untag,
             b"undo": lambda _, given: self.tagging.undo(given)}
 
@@ -59,9 +56,12 @@ class Shell:
         self.interrupts.ask()
 
     def run(self, line: bytes, words: list[bytes], payload: bytes) -> None:
-        is_short = len(line) <= MAX_LINE
+        is_short = len(line) <= most_of_line(words[0])
         if words[0] == b"ls" and is_short and (len(words) > 1 or self.screen.asks):
             self.looking.ls(words[1:])
+        elif words[0] == b"cd" and len(words) == 2 and is_short and self.screen.asks:
+            # In a script it is that of the program.
+            self.looking.cd(line, words[1])
         elif words[0] in self.own and is_short:
             self.own[words[0]](line, words[1:])
         else:
@@ -114,112 +114,15 @@ class Shell:
             raise Failed(bad_line(words_of(line)[0].decode(), given, self.session))
         raise Over
 
-    def put(self, line: bytes, _: list[bytes]) -> None:
-        words = self.in_quotes(line)
-        is_sure = words[:1] == [b"-w"]
-        path, *words = words[is_sure:] or self.wrong("put")
-        name, words = words[0] if words else os.path.basename(path.rstrip(b"/")), words[1:]
-        if not is_file_name(name):
-            raise Failed(f"{harmless(name)}: no name of a file, which has {NAME_FORM}: give one after the path: put FILE AS")
-        if wrong := [word for word in words if not is_word(word)]:
-            raise Failed(bad_line("create", [name, *wrong], self.session))
-        content, told = self.content_of(path), ""
-        if self.session.is_here(name):
-            if not is_sure and not self.screen.says_yes(f"{harmless(name)} is here already, with its words: write these bytes to it?"):
-                raise Failed(f"{harmless(name)}: there is a file of this name already" + ("" if self.screen.asks else "; `put -w` writes to it"))
-            self.judged(b"write", name, content, [], lambda: self.session.write(line, name, content))
-            told = "; its words stay as they were" if words else ""
-        else:
-            self.judged(b"add", name, content, words, lambda: self.session.add(line, name, content, *words))
-        self.screen.lines([f"{harmless(name)}: {len(content):,} bytes{told}"])
-
-    def judged(self, command: bytes, name: bytes, content: bytes, words: Sequence[bytes], call: Callable[[], None]) -> None:
-        """A command with bytes, which is told as the line that it is."""
-        try:
-            call()
-        except Refused as refused:
-            raise Failed(sentence(refused, b" ".join([command, name, b"%d" % len(content), *words]), self.session)) from None
-
-    def content_of(self, path: bytes) -> bytes:
-        """The bytes of a file of the system, where a file may have so many."""
-        path, most = os.path.expanduser(path), self.session.limits.file_bytes
-        try:
-            found = os.stat(path)
-            if not stat.S_ISREG(found.st_mode):
-                raise Failed(f"{harmless(path)}: no plain file")
-            with open(path, "rb") as file:
-                content = file.read(MAX_PAYLOAD + 1)
-        except OSError as error:
-            raise Failed(f"{harmless(path)}: {error.strerror}") from None
-        if len(content) > most:
-            raise Failed(f"{harmless(path)}: it has {max(found.st_size, len(content)):,} bytes, and a file of this image at most {most:,}")
-        return content
-
-    def get(self, line: bytes, _: list[bytes]) -> None:
-        words = self.in_quotes(line)
-        if not 1 <= len(words) <= 2:
-            self.wrong("get")
-        if not is_file_name(words[0]):
-            raise Failed(bad_line("get", words, self.session))
-        content = self.session.content(words[0])
-        path = os.path.expanduser(words[1] if len(words) > 1 else words[0])
-        path = os.path.join(path, words[0]) if os.path.isdir(path) else path
-        try:
-            self.write_to(path, content)
-        except OSError as error:
-            raise Failed(f"{harmless(path)}: {error.strerror}") from None
-        self.screen.lines([f"{harmless(path)}: {len(content):,} bytes"])
-
-    def write_to(self, path: bytes, content: bytes) -> None:
-        """Writes a file of the system: a new one, or in place of another where that is wanted."""
-        if not os.path.lexists(path):
-            try:
-                with open(path, "xb") as file:
-                    file.write(content)
-            except FileExistsError:
-                raise
-            except BaseException:
-                with contextlib.suppress(OSError):
-                    os.unlink(path)
-                raise
-            return
-        if not os.path.isfile(path):
-            raise Failed(f"{harmless(path)}: it is there already, and no plain file")
-        if not self.screen.says_yes(f"{harmless(path)} is there already: write over it?"):
-            raise Failed(f"{harmless(path)}: it is there already, and is left as it was")
-        import tempfile
-        # The old bytes stand until the new ones are whole.
-        path = os.path.realpath(path)
-        descriptor, new = tempfile.mkstemp(dir=os.path.dirname(path))
-        try:
-            with open(descriptor, "wb") as file:
-                file.write(content)
-            shutil.copymode(path, new)
-            os.replace(new, path)
-        except BaseException:
-            with contextlib.suppress(OSError):
-                os.unlink(new)
-            raise
-
-    def in_quotes(self, line: bytes) -> list[bytes]:
-        """The words behind the command, with quotes and backslashes as in other shells."""
-        try:
-            words = [os.fsencode(word) for word in shlex.split(os.fsdecode(line.removesuffix(b"\r")))]
-        except ValueError:
-            raise Failed(f"{harmless(line.strip())}: a quote is not closed") from None
-        if b"\0" in line:
-            raise Failed(f"{harmless(line.strip())}: no path has such a byte")
-        return words[1:]
-
-    def wrong(self, name: str) -> NoReturn:
-        raise Failed(f"{name}: usage: {COMMANDS[name].form}")
-
 
 def formula_of(words: Sequence[bytes]) -> bytes:
     """The formula of a line that searches, or none."""
     command, *given = words
     if command in (b"tag", b"untag"):
         return given[2] if len(given) == 3 and given[1] == b"in" else b""
+    if command == b"get":
+        # The path after it may have blanks.
+        return given[1] if len(given) >= 3 and given[0] == b"in" else b""
     if command not in (b"cd", b"find", b"ls", b"grep"):
         return b""
     given = [word for word in given if word not in COMMANDS[command.decode()].flags]
@@ -263,7 +166,7 @@ def from_input() -> bytes:
 
 def commands(read: Callable[[], bytes], interrupts: Interrupts) -> Iterator[Item | None]:
     """The commands of what is read, each a line without its line feed and the bytes behind it, and at last `None` where these are cut off."""
-    items = Items(MAX_LINE)
+    items = Items(MAX_LINE, LONGEST)
     data: bytes | None = None
     # A last line, and last bytes, may lack their line feed.
     while data != b"" or items.lacks_feed():

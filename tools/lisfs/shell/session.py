@@ -15,8 +15,8 @@ from lisfs import client
 from lisfs.client import GoOn, NotSent, Program, Refused, Reply, Retag, Retagged, as_content, words_of
 from lisfs.constants import UNKNOWN_PROPERTY
 from lisfs.dumps import Axiom, Dump
+from lisfs.formulas import Instead, without, words_in
 from lisfs.formulas import formula as read_formula
-from lisfs.formulas import words_in
 from lisfs.image import Following, Limits
 from lisfs.index import File, Index
 from lisfs.shell.undoing import UNDOABLE, Change, moving, tags_of, undoing
@@ -336,7 +336,7 @@ class Session(Following[File]):
         return self.index.of(self.row())
 
     def contents(self, files: Iterable[File]) -> Iterator[tuple[File, bytes]]:
-        """Files of the place with their bytes, many asked for at once."""
+        """Files of the place with their bytes, many asked for at once; without those that another client has just removed."""
         some: list[File] = []
         for file in (*files, None):
             if some and (file is None or len(some) == AHEAD or sum(one.size for one in some) > AHEAD_BYTES):
@@ -344,10 +344,19 @@ class Session(Following[File]):
                 for one in some:
                     self.program.send(b"cat", one.name)
                 # All of them are received before anybody else can send something.
-                yield from zip(some, [as_content(self.program.receive()).body for _ in some])
+                received = [(one, self._received_content()) for one in some]
+                yield from ((one, content) for one, content in received if content is not None)
                 some = []
             if file:
                 some.append(file)
+
+    def _received_content(self) -> bytes | None:
+        try:
+            return as_content(self.program.receive()).body
+        except Refused:
+            if self.program.is_shared:
+                return None
+            raise
 
     def names_here(self, beginning: bytes = b"") -> list[bytes]:
         """The names of the files of the place that begin so."""
@@ -396,12 +405,26 @@ class Session(Following[File]):
         self._refresh()
         return self.index.files.values()
 
+    def beginning(self, word: bytes) -> list[bytes]:
+        """The words of files that begin as this one does, the most frequent first."""
+        self._refresh()
+        return self.index.beginning(word)
+
     def is_assignable(self, word: bytes) -> bool:
         """Whether a file may be given this word."""
         return is_plain(word) and word in self.declared or head_of(word) in self.declared and word not in self.declared
 
+    def instead_of(self, formula: bytes) -> Instead | None:
+        """The formula that finds what one with unknown words would, without these, or None if there is none: see `formulas.without`."""
+        return without(formula, self._asked_unknown(formula))
+
     def unknown(self, formula: bytes) -> list[bytes]:
-        """Those words of a formula that the program does not know, each asked for alone, behind this place."""
+        """Those words of a formula that the program does not know."""
+        # At a place that is almost too large none can be asked for.
+        return self._asked_unknown(formula) or [word for word in words_in(formula) if word not in self.known()]
+
+    def _asked_unknown(self, formula: bytes) -> list[bytes]:
+        """The same. Each is asked for alone, as a step from this place, unless the place is almost too large."""
         found = []
         for word in words_in(formula):
             try:
@@ -410,5 +433,4 @@ class Session(Following[File]):
                 found += [word] if refused.number == UNKNOWN_PROPERTY else []
             else:
                 self.program.cd(b"..")
-        # At a place that is almost too large none can be asked for.
-        return found or [word for word in words_in(formula) if word not in self.known()]
+        return found

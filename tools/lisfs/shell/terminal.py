@@ -8,6 +8,7 @@ import subprocess
 import sys
 from collections.abc import Callable, Iterable, Iterator, Sequence
 
+from lisfs.own import state_folder
 from lisfs.showing import harmless
 
 try:
@@ -205,10 +206,7 @@ def pager() -> str | None:
 
 def history_path() -> str:
     """The file of the lines of earlier days."""
-    state = os.environ.get("XDG_STATE_HOME", "")
-    # One that does not begin at the root is to be passed over.
-    state = state if os.path.isabs(state) else os.path.expanduser("~/.local/state")
-    return os.path.join(state, "lisfs", "shell_history")
+    return os.path.join(state_folder(), "shell_history")
 
 
 class History:

@@ -16,7 +16,8 @@ from lisfs.client import Commands, Program, Refused, Retag, Retagged, as_content
 from lisfs.constants import IN_USE, NO_FILE_HERE, REFUSAL_WORDS, UNKNOWN_PROPERTY
 from lisfs.dumps import Axiom, Dump
 from lisfs.index import File
-from lisfs.refusals import about
+from lisfs.formulas import Instead, replaced, without, words_in
+from lisfs.refusals import MEANT, about
 from lisfs.web.places import Place
 from lisfs.words import head_of, is_head, is_plain, is_test, is_word
 
@@ -104,6 +105,22 @@ class Image(image.Image[File]):
                 is_anew = True
         raise Differs(formula)
 
+    def found(self, formula: bytes) -> tuple[View, Instead | None]:
+        """The same. If no file has a word on one side of `|`, it is the place of the formula without that side, which is returned too."""
+        try:
+            return self.look(formula), None
+        except Refused as refused:
+            instead = without(formula, self._unknown(formula)) if refused.number == UNKNOWN_PROPERTY else None
+            if instead is None:
+                raise
+            return self.look(instead.formula), instead
+
+    def _unknown(self, formula: bytes) -> list[bytes]:
+        """The words of a formula that the program does not know."""
+        words = words_in(formula)
+        answers = self._answers([*((b"cd", image.ROOT + word) for word in words), (b"cd", image.ROOT)])
+        return [word for word, answer in zip(words, answers) if isinstance(answer, Refused) and answer.number == UNKNOWN_PROPERTY]
+
     def _agrees(self, here: int, words: list[tuple[bytes, int]], shown: list[bytes]) -> bool:
         whole, covered = here.bit_count(), 0
         for word, count in words:
@@ -121,6 +138,13 @@ class Image(image.Image[File]):
         lefts = {left for left, _ in self.axioms}
         known = {word for word in (*self.index.words(), *self.declared, *lefts, *map(head_of, lefts)) if word}
         return about(refused, known if refused.command == "cd" else self.declared)
+
+    def meant(self, refused: Refused, formula: bytes) -> list[bytes]:
+        """If no file has a value of a formula: the formulas with values that begin so, which may have been meant."""
+        for word in self.about(refused):
+            if head_of(word) and (found := self.index.beginning(word)):
+                return [replaced(formula, word, value) for value in found[:MEANT]]
+        return []
 
     def file(self, name: bytes) -> tuple[File, list[bytes], bytes]:
         """A file of the index, the words of a route to it and its bytes."""

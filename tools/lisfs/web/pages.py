@@ -1,7 +1,7 @@
 """The pages: what each shows of an image. The templates beside this make HTML of it; each page works without a script, and has no address but
 of these pages."""
 import dataclasses
-from collections.abc import Iterable
+from collections.abc import Iterable, Sequence
 from typing import NamedTuple
 
 from lisfs import derived
@@ -179,8 +179,9 @@ class Pages:
         return joined(derived.told_of_misses(words, ((file.name, file.words) for file in files)),
                       derived.told_of_left_out(filter(self.image.is_assignable, words), ((file.given, file.words) for file in files)))
 
-    def wrong_place(self, typed: bytes, sentence: str) -> str:
-        return self.whole("wrong_place.html", "No such place", typed=typed, sentence=sentence, missing=self.missing(words_in(typed)))
+    def wrong_place(self, typed: bytes, sentence: str, meant: Sequence[bytes]) -> str:
+        """A page that says why a formula is refused, and links the formulas that may have been meant."""
+        return self.whole("wrong_place.html", "No such place", typed=typed, sentence=sentence, meant=meant, missing=self.missing(words_in(typed)))
 
     # A place.
 

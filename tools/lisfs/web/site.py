@@ -21,7 +21,8 @@ from typing import NamedTuple
 from lisfs.client import Ended, NotAReply, NotSent, Refused, Retagged
 from lisfs.constants import BAD_FORMULA, BAD_LINE, LARGE_FILE, LARGE_FORMULA, MAX_FORMULA, MAX_LINE, MAX_WORD, NO_FILE_HERE, NOT_A_PLACE
 from lisfs.endings import say
-from lisfs.refusals import sentence, sentence_about
+from lisfs.formulas import joined
+from lisfs.refusals import left_out, sentence, sentence_about
 
 from lisfs.web.image import Differs, Image, NothingToUndo, OtherBytes, View, WrongWord
 from lisfs.web.markup import address, counted
@@ -320,13 +321,16 @@ class Site:
         return self.image.look(given.get("at") or b"/")
 
     def place(self, given: Fields) -> Answer:
+        typed = given.get("at", b"")
         try:
-            view = self._look(given)
-        except (Refused, NotSent) as error:
-            told = self._told_of(error) if isinstance(error, Refused) else sentence(
-                LARGE_FORMULA if len(given["at"]) > MAX_FORMULA else BAD_FORMULA)
-            return self._page(self.pages.wrong_place(given.get("at", b""), told), 404)
-        return self._page(self.pages.place(view, given.get("q", b""), self._told(given)))
+            view, instead = self.image.found(typed or b"/")
+        except Refused as refused:
+            return self._page(self.pages.wrong_place(typed, self._told_of(refused), self.image.meant(refused, typed)), 404)
+        except NotSent:
+            # It has blanks, or is too long for a line.
+            meant, number = joined(typed.split()), LARGE_FORMULA if len(typed) > MAX_FORMULA else BAD_FORMULA
+            return self._page(self.pages.wrong_place(typed, sentence(number), [meant] if meant else []), 404)
+        return self._page(self.pages.place(view, given.get("q", b""), f"{left_out(instead)}." if instead else self._told(given)))
 
     def _told(self, given: Fields) -> str | None:
         """The sentence of a change that was done, and of how many files, if an address says so."""

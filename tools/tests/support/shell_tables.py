@@ -20,7 +20,7 @@ SCRIPTS = (
     ("no line feed behind the last line, and CR", b"pwd\r\nls -c", b"w /\nd 1 live\nd 3 music\nd 3 year:\nf   notes\n", ""),
     ("places", b"cd music\npwd\ncd year:2003/!live\npwd\nls\ncd ..\npwd\ncd /\npwd\n",
      b"w music\nw music/year:2003/!live\nf album\nw music/year:2003\nw /\n", ""),
-    ("all files", b"find\ncd music\nfind\nfind !live\nfind /notes|live\nfind /!music\nfind ..\npwd\n",
+    ("all files", b"find\ncd music\nfind\nfind !live\nfind /notes/live\nfind /!music\nfind ..\npwd\n",
      b"album\ngig\nnotes\nsingle\nalbum\ngig\nsingle\nalbum\nsingle\nnotes\nalbum\ngig\nnotes\nsingle\nw music\n",
      "shell: notes: this is the name of a file, and no word\n"),
     ("changes", b"mkdir jazz\naxiom jazz music\ncreate blue jazz\nrename blue green\nmv green live\nprops green\nway green\nstat\nrm green\n"
@@ -35,14 +35,26 @@ SCRIPTS = (
      "shell: cat: usage: cat NAME\nshell: x: this word is not known; `mkdir x` declares it\n"
      "shell: x: this word is not known; `mkdir x` declares it\n"),
     ("the end", b"exit x\nfind a b\nhelp a b\nhelp x\nquit x\npwd\nexit\npwd\n", b"w /\n",
-     "shell: x: one word too many: usage: exit\nshell: b: one word too many: usage: find [FORMULA]\n"
+     "shell: x: one word too many: usage: exit\nshell: find: a formula has no blanks, and `/` joins its words: `find a/b`\n"
      "shell: b: one word too many: usage: help [COMMAND]\nshell: x: there is no such command; `help` lists all\n"
      "shell: x: one word too many: usage: quit\n"),
     ("another end", b"pwd\nquit\npwd\n", b"w /\n", ""),
     ("one word too many", b"cat gig album\ncd music live\npwd gig\nrename gig a b\nls music live\nls -c music live\n", b"",
-     "shell: album: one word too many: usage: cat NAME\nshell: live: one word too many: usage: cd FORMULA\n"
+     "shell: album: one word too many: usage: cat NAME\nshell: cd: a formula has no blanks, and `/` joins its words: `cd music/live`\n"
      "shell: gig: one word too many: usage: pwd\nshell: b: one word too many: usage: rename NAME OTHER\n"
-     + "shell: live: one word too many: usage: ls [-a] [-c] [PLACE]\n" * 2),
+     + "shell: ls: a formula has no blanks, and `/` joins its words: `ls music/live`\n" * 2),
+    ("a formula with blanks", b"find music / live\nfind music | ! live\nfind ( music live ) gig\nfind /music live\nfind music/ /live\nfind ! ( a | b\n"
+     b"ls -a music live\nmv gig live music\ntag live in !live music\nuntag live in !live music/ x\ntag live in gig music\n", b"",
+     "shell: find: a formula has no blanks, and `/` joins its words: `find music/live`\n"
+     "shell: find: a formula has no blanks, and `/` joins its words: `find music|!live`\n"
+     "shell: find: a formula has no blanks, and `/` joins its words: `find (music/live)/gig`\n"
+     "shell: find: a formula has no blanks, and `/` joins its words: `find /music/live`\n"
+     "shell: /live: one word too many: usage: find [FORMULA]\nshell: (: one word too many: usage: find [FORMULA]\n"
+     "shell: ls: a formula has no blanks, and `/` joins its words: `ls music/live`\n"
+     "shell: mv: a formula has no blanks, and `/` joins its words: `mv gig live/music`\n"
+     "shell: tag: a formula has no blanks, and `/` joins its words: `tag live in !live/music`\n"
+     "shell: untag: a formula has no blanks, and `/` joins its words: `untag live in !live/music/x`\n"
+     "shell: in: this word is not known; `mkdir in` declares it\n"),
     ("a listing of another place", b"ls music\nls -a music/live\nls -c /music\npwd\ncd live\nls /\nls ..\npwd\nls music -c\n",
      b"d live\nd year:1999\nd year:2003\nf gig\nd 1 live\nd 1 year:1999\nd 2 year:2003\nw /\n"
      + b"d live\nd music\nd year:\nf notes\n" * 2 + b"w live\n", "shell: ls: usage: ls [-a] [-c] [PLACE]\n"),
