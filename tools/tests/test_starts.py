@@ -16,8 +16,6 @@ UNNEEDED = {
     "talk": ("dataclasses", "hashlib", "tempfile", "traceback", "lisfs.served"),
     "web.cli": ("dataclasses", "jinja2", "tempfile", "traceback", "lisfs.served"),
 }
-# Those that need no dataclass, whose module loads the compiler's types anyway.
-PLAIN = [name for name in UNNEEDED if "dataclasses" in UNNEEDED[name]]
 
 
 def shown_by(tool, code):
@@ -34,7 +32,7 @@ def test_imports(tool):
     assert set(shown_by(tool, "print(*loaded)")).isdisjoint(UNNEEDED[tool])
 
 
-@pytest.mark.parametrize("tool", PLAIN)
+@pytest.mark.parametrize("tool", UNNEEDED)
 def test_records(tool):
     """The fields of a record have types. If they had texts, as after `from __future__ import annotations`, each start would compile them."""
     code = """
