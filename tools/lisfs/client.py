@@ -32,8 +32,6 @@ tag, is of no room: it is refused, has no payload, and the line `@-` stands behi
 - `view` and `put` run the words of these names, and hand out, or write, a whole view.
 - `tag` and `untag` give words to several files, or take them back, and `undo` undoes what these made.
 """
-from __future__ import annotations
-
 import collections
 import contextlib
 import enum
@@ -71,10 +69,11 @@ PATIENCE = 60
 COUNT = re.compile(rb"[0-9]{1,%d}" % MAX_DIGITS)
 WORD = re.compile(rb"[^ \t]+")
 NO_WORD = re.compile(rb"[ \t\r\n]")
+# What a view is. Few tools look at one, so it is not compiled here.
+VIEW = rb"(?:\+[^\n]*\n|@[1-9][0-9]* [1-9][0-9]*\n)*(?:!\n)?"
 BODY_LINE = re.compile(rb"([a-z]) (.*)")
 CONTENT_LINE = re.compile(rb"b (0|[1-9][0-9]{0,6})")
 REFUSAL_LINE = re.compile(rb"no ([0-9]{2}) (.+)")
-VIEW = re.compile(rb"(?:\+[^\n]*\n|@[1-9][0-9]* [1-9][0-9]*\n)*(?:!\n)?")
 # The line of a tag, and each front of it.
 TAG_LINE = re.compile(rb"(@([0-7-]\n?)?)?")
 TAG_SIZE = len(b"@0\n")
@@ -84,6 +83,8 @@ TAG_SIZE = len(b"@0\n")
 Word: TypeAlias = str | bytes
 # The letter and the text of a body line. It is a plain pair, since there are thousands of them.
 BodyLine: TypeAlias = tuple[bytes, bytes]
+# The bytes of a whole reply, and the tag behind it, if the program has tags. It is a plain pair too.
+Tagged: TypeAlias = tuple[bytes, bytes | None]
 
 
 class Kind(enum.Enum):
@@ -119,13 +120,6 @@ class Item(NamedTuple):
 
     line: bytes
     payload: bytes
-
-
-class Tagged(NamedTuple):
-    """The bytes of a whole reply, and the tag behind it, if the program has tags."""
-
-    whole: bytes
-    tag: bytes | None
 
 
 class End(NamedTuple):
@@ -319,7 +313,7 @@ class Replies:
         whole = bytes(self.shown[:end])
         del self.shown[:end + len(tag)]
         self.at = 0
-        return Tagged(whole, tag[:-1] or None)
+        return whole, tag[:-1] or None
 
 
 def reply_of(whole: bytes) -> Reply:
@@ -386,10 +380,8 @@ class Commands:
 
 
 def unnamed_file() -> IO[bytes]:
-    """A file that is gone once it is closed."""
-    # Only where a program begins.
-    import tempfile
-    return tempfile.TemporaryFile()
+    """A file in memory, which is gone once it is closed."""
+    return open(os.memfd_create("lisfs"), "w+b")
 
 
 class Stream(Protocol):
@@ -442,7 +434,7 @@ class Program(Commands):
         self._unsent: collections.deque[bytes | memoryview] = collections.deque()
         self._awaited: collections.deque[bytes | None] = collections.deque()
 
-    def __enter__(self) -> Program:
+    def __enter__(self) -> "Program":
         return self
 
     def __exit__(self, kind: type[BaseException] | None, *_: object) -> None:
@@ -450,14 +442,14 @@ class Program(Commands):
         with contextlib.suppress(Ended) if kind else contextlib.nullcontext():
             self.close()
 
-    def news(self) -> News | None:
+    def news(self) -> "News | None":
         """What others have changed since this was asked last, or None if that is nothing, as of an image that a program has alone."""
         return None
 
     def guard(self) -> None:
         """From now on no file is changed that another client has changed after what is known. Of an image alone there is none."""
 
-    def room(self, number: int) -> Room:
+    def room(self, number: int) -> "Room":
         """The room of this number, which can be asked commands."""
         return Room(self, number)
 
@@ -639,7 +631,7 @@ class Retag(NamedTuple):
     gains: tuple[bytes, ...] = ()
     loses: tuple[bytes, ...] = ()
 
-    def inverse(self) -> Retag:
+    def inverse(self) -> "Retag":
         return Retag(self.name, self.loses, self.gains)
 
 
@@ -737,7 +729,7 @@ def shown_by(command: Sequence[Word], data: bytes = b"") -> bytes:
 def view(image: Word, name: Word, formula: Word) -> bytes:
     """The view of a file's lines that satisfy a formula, as `lisfs view` shows it. Raises `Refused` where it is a refusal."""
     shown = shown_by([PROGRAM, "view", image, name, formula])
-    if not VIEW.fullmatch(shown):
+    if not re.fullmatch(VIEW, shown):
         only_reply(shown)
         raise NotAReply(f"{shown[:80]!r} is no view")
     return shown

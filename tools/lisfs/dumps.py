@@ -1,6 +1,4 @@
 """What an image holds, read out of the session that makes it again, as `lisfs dump IMAGE` shows it."""
-from __future__ import annotations
-
 import os
 import signal
 import time

@@ -67,6 +67,13 @@ def say(line: str, kept: str = "") -> None:
         sys.stderr.flush()
 
 
+def say_fault() -> None:
+    """A fault of a tool that goes on, in an `except` block: what it is, and where it was raised."""
+    # It takes a while to load, and faults are rare.
+    import traceback
+    say(traceback.format_exc().rstrip("\n"), "\n")
+
+
 def folder_fault(folder: str) -> str | None:
     """What is wrong with a folder that a tool is to read, or None."""
     shown = harmless(folder)

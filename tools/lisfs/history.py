@@ -23,8 +23,6 @@ there now, the names that files got first. What is said twice is as it was said 
 
 A refusal by `:guard` is the line `no 00 changed by another client`, and nothing was changed.
 """
-from __future__ import annotations
-
 import collections
 import os
 from collections.abc import Callable, Iterator, Sequence

@@ -3,8 +3,6 @@
 The image is locked by the session, so nobody else changes it; or it is served, and then `catch_up` takes in what others have changed. Between two
 calls the session's place is the root, where all files are.
 """
-from __future__ import annotations
-
 import contextlib
 import struct
 from collections.abc import Iterable, Iterator, Sequence
@@ -51,14 +49,14 @@ class Following(Generic[F]):
     index: Index[F]
     declared: set[bytes]
 
-    def catch_up(self) -> News | None:
+    def catch_up(self) -> "News | None":
         """Takes in what other clients of a served image have changed since the last time, or returns None if that is nothing."""
         if news := self.program.news():
             self._take_names(news)
             self._take_words(news)
         return news
 
-    def _take_names(self, news: News) -> None:
+    def _take_names(self, news: "News") -> None:
         for old, new in news.renamed:
             if file := self.index.files.get(old):
                 if new in self.index.files:
@@ -68,7 +66,7 @@ class Following(Generic[F]):
         for name in gone:
             self._is_removed(self.index.files[name])
 
-    def _take_words(self, news: News) -> None:
+    def _take_words(self, news: "News") -> None:
         """Takes in the words that files were given, the declared words and the axioms. Whatever these may touch is asked for again."""
         stale = {self._is_there(name, size, words) for name, (size, words) in news.files.items()}
         if news.whole or any(map(is_test, news.declared | news.undeclared)):
@@ -91,7 +89,7 @@ class Following(Generic[F]):
         """That another client has removed a file."""
         self.index.drop(file)
 
-    def _take_axioms(self, news: News) -> None:
+    def _take_axioms(self, news: "News") -> None:
         """Takes in the axioms that others have added and removed."""
 
     def _is_stale(self, files: set[F]) -> None:
@@ -101,7 +99,7 @@ class Following(Generic[F]):
 
 class Image(Following[F]):
     @overload
-    def __init__(self: Image[File], program: Program, dump: Dump, limits: Limits) -> None: ...
+    def __init__(self: "Image[File]", program: Program, dump: Dump, limits: Limits) -> None: ...
 
     @overload
     def __init__(self, program: Program, dump: Dump, limits: Limits, kind: Kind[F]) -> None: ...

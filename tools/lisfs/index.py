@@ -50,10 +50,11 @@ class Index(Generic[F]):
     def add(self, name: bytes, size: int, given: Iterable[bytes]) -> F:
         """A file of this name, where there was none, or where another client of the image has just removed it."""
         self._make_way(name)
-        if not self._free:
-            self._free.append(len(self._of_bits))
+        if self._free:
+            at = self._free.pop()
+        else:
+            at = len(self._of_bits)
             self._of_bits.append(None)
-        at = self._free.pop()
         file = self._of_bits[at] = self.files[name] = self.kind(name, size, given, 1 << at)
         self.everything |= file.bit
         return file

@@ -3,8 +3,6 @@
 A served image is open already, so these words can't open it. The file's bytes then go through an image of their own, which has this one file:
 the program makes the view of it there, and puts the edited view back, and the server's image gets the bytes that come out.
 """
-from __future__ import annotations
-
 import os
 from typing import NamedTuple
 

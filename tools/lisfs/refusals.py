@@ -4,8 +4,6 @@
 - `sentence` is a whole sentence, for a page, and `error` the error of a file system. Those of `put` alone have none, since no session meets them.
 - `cause` is a short cause, for a report of many files.
 """
-from __future__ import annotations
-
 import errno
 from collections.abc import Container, Sequence
 from typing import NamedTuple, Protocol

@@ -29,8 +29,6 @@ It waits at most 5 seconds, or the seconds in `$LISFS_PATIENCE`, in three cases:
 
 The lock file is there only while a server starts.
 """
-from __future__ import annotations
-
 import collections
 import contextlib
 import fcntl

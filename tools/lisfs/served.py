@@ -3,8 +3,6 @@
 It is asked as a program is that has the image alone. Others change the image too: `news` says what they have changed since it was asked last, so
 that what is known of the image stays true (`history` has the lines), and behind `guard` no file is changed that another client has changed.
 """
-from __future__ import annotations
-
 import contextlib
 import os
 import socket

@@ -8,7 +8,7 @@ PLAIN = rb"A-Za-z0-9_.+@-"
 PLAIN_FORM = "letters, digits and _ - . + @"
 NAME_FORM = f"1 to {MAX_WORD} {PLAIN_FORM}"
 PLAIN_RUN = re.compile(rb"[%b]+" % PLAIN)
-PLAIN_BYTES = bytes(byte for byte in range(256) if PLAIN_RUN.fullmatch(bytes([byte])))
+PLAIN_BYTES = b"".join(PLAIN_RUN.findall(bytes(range(256))))
 NOT_PLAIN = re.compile(rb"[^%b]" % PLAIN)
 # Of any length, as a formula and a path have them.
 FILE_NAME = PLAIN_RUN

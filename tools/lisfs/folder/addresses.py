@@ -1,8 +1,6 @@
 """The people that a field of a mail names, each as a name and an address, read in one pass: however the field is made, each of its letters is
 looked at a few times at most. Python's own reader of such fields takes seconds for some of a few thousand letters.
 """
-from __future__ import annotations
-
 import binascii
 import encodings
 import functools

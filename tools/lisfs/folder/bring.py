@@ -28,8 +28,6 @@ file is read when its turn comes. No symbolic link below FOLDER is followed. To 
 
 The status is 0 if all was taken, 1 if something was not, and 2 for wrong use.
 """
-from __future__ import annotations
-
 import argparse
 import collections
 import os
@@ -194,7 +192,7 @@ class Import:
                 yield Command((b"mv", name, b"/".join(rest)))
             self.telling.progress(lambda: f"{self.taken} of {counted(len(self.files), 'file')}")
 
-    def carry(self, out: BinaryIO, largest: Largest) -> None:
+    def carry(self, out: BinaryIO, largest: "Largest") -> None:
         """Writes the session, and lets the largest image take it too."""
         for words, payload in self.commands():
             out.write(b" ".join(words) + b"\n")
@@ -204,7 +202,7 @@ class Import:
             largest.take(words, payload)
         out.flush()
 
-    def report(self, largest: Largest) -> None:
+    def report(self, largest: "Largest") -> None:
         files = max(64, 1 << (max(1, self.taken) - 1).bit_length())
         self.tell(f"{self.taken} files taken, {self.telling.not_taken.total()} not taken, {self.renamed} named otherwise")
         if self.telling.not_taken:

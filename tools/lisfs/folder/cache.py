@@ -5,8 +5,6 @@ these times were old enough then that each later change has other ones. All of i
 or of another version of what reads files is not believed, and is made again. It lies in `$XDG_CACHE_HOME/lisfs`, or else in
 `~/.cache/lisfs`, may be removed at any time, and has what its owner alone may read.
 """
-from __future__ import annotations
-
 import contextlib
 import functools
 import hashlib

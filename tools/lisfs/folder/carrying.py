@@ -3,8 +3,6 @@
 A file that is a folder's own is removed, written and given other words at the place of the folder's marker alone: what hasn't this word is
 not there, so the program itself keeps all other files out of it.
 """
-from __future__ import annotations
-
 import collections
 import contextlib
 import fcntl

@@ -4,8 +4,6 @@ The files of an image that are a folder's own have its marker, a word `sync:NAME
 these files: all others that they have somebody gave them, and they stay. The records of `memory` say what was brought in: what changed in
 the folder alone is brought in, what changed in the image alone stays, and what changed on both sides is a conflict, which is left.
 """
-from __future__ import annotations
-
 import enum
 import hashlib
 import os

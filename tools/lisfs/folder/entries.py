@@ -1,6 +1,4 @@
 """The files of a folder as an image is to have them: each with its names, its size and its words. No bytes of files are kept."""
-from __future__ import annotations
-
 import dataclasses
 import hashlib
 import os

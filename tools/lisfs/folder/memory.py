@@ -21,8 +21,6 @@
 12. A memory is removed in two cases: `KEPT` later ones are in each list that has it, or it was not used for a year and is in no list of an
    image that is still at its path. So a run over one image never removes the memory of another one.
 """
-from __future__ import annotations
-
 import contextlib
 import hashlib
 import json

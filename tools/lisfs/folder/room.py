@@ -4,8 +4,6 @@ Files come in one after the other, the newest first, and each takes of the room 
 replies were there by then. Some of the words that an image may know are kept free for the person. The program is asked which words it knows
 only if there may be too many.
 """
-from __future__ import annotations
-
 from collections.abc import Iterable, Mapping
 from fractions import Fraction
 from typing import NamedTuple

@@ -6,8 +6,6 @@ folders `.NAME.NAME`, whose names are decoded as mail programs write them.
 No symbolic link below the folder is followed: each part of a path is opened in the folder before it, so that this holds too where somebody
 puts a link in the place of a folder meanwhile.
 """
-from __future__ import annotations
-
 import base64
 import contextlib
 import dataclasses

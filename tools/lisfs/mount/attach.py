@@ -3,7 +3,6 @@ by `fusermount3`, which may do it for its caller's own folders. Also the loop th
 """
 from __future__ import annotations
 
-import array
 import contextlib
 import ctypes
 import errno
@@ -11,7 +10,6 @@ import os
 import select
 import shutil
 import signal
-import socket
 import subprocess
 import threading
 import time
@@ -58,6 +56,9 @@ def _by_call(folder: str, source: str, options: list[str]) -> int:
 
 def _by_helper(folder: str, source: str, options: list[str]) -> int:
     """The helper mounts, and sends the device over a socket that it is told the number of."""
+    # A mount by root needs no socket, and starts sooner without the module.
+    import array
+    import socket
     ours, theirs = socket.socketpair()
     # A comma in the name of the source would end an option.
     words = ",".join(options + ["subtype=lisfs", "fsname=" + source.replace("\\", "\\\\").replace(",", "\\,")])

@@ -6,8 +6,6 @@ when somebody needs them, those of many files in one go, and the derived words o
 A new file that somebody writes is known here before: it waits for its bytes, so that one `add` makes it whole, where `create` and `write`
 would be two changes. It waits only where nothing can keep the program from making it, and until anything else is to be changed or asked.
 """
-from __future__ import annotations
-
 import collections
 import errno
 import functools
@@ -105,7 +103,7 @@ class Image(image.Image[File]):
         self._forget(file)
         file.is_lost = True
 
-    def _take_axioms(self, news: News) -> None:
+    def _take_axioms(self, news: "News") -> None:
         if news.whole:
             self.axioms.clear()
         for left, right in news.axioms:
@@ -125,7 +123,7 @@ class Image(image.Image[File]):
         self.stale |= files
         self.unasked -= files
 
-    def catch_up(self) -> News | None:
+    def catch_up(self) -> "News | None":
         if news := super().catch_up():
             for name in self.files.keys() if news.whole else news.written & self.files.keys():
                 self._drop(self.files[name])

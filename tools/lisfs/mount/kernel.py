@@ -4,19 +4,16 @@ It knows nothing of images. What answers has the calls of `Handlers` (`tree.Tree
 device is any descriptor that gives one message a read and takes one a write, so a pair of sockets serves for tests. The layouts are those of
 linux/fuse.h, protocol 7, as of minor 23: later minors add to them and change none.
 """
-from __future__ import annotations
-
 import enum
 import errno
 import os
 import struct
 import sys
 import time
-import traceback
 from collections.abc import Callable
 from typing import NamedTuple, Protocol, TypeAlias
 
-from lisfs.showing import write_line
+from lisfs.endings import say_fault
 
 # The protocol, and the minors of it that are spoken.
 MAJOR, MINOR, OLDEST_MINOR = 7, 38, 23
@@ -282,7 +279,7 @@ class Connection:
         except OSError as error:
             answer, failed = b"", error.errno or errno.EIO
         except Exception:  # A fault of this program is told, and the asker gets an error; nothing was acknowledged.
-            write_line(sys.stderr, traceback.format_exc().rstrip("\n"), "\n")
+            say_fault()
             answer, failed = b"", errno.EIO
         if code not in self.silent:
             self.send(OUT_HEADER.pack(OUT_HEADER.size + len(answer), -failed, unique), answer)

@@ -33,6 +33,10 @@ class Looks:
         self.changed = now
 
 
+# How a file looks until that is said.
+UNKNOWN = Looks(0, 0, 0, 0)
+
+
 class Draft:
     """What was written to a file and is not in the image yet."""
 
@@ -60,7 +64,7 @@ class File(index.File):
         # Whether it is another client of a served image that removed it.
         self.is_lost = False
         # The tree says how it looks. How often it is open, and where the kernel knows it.
-        self.looks, self.handles = Looks(0, 0, 0, 0), 0
+        self.looks, self.handles = UNKNOWN, 0
         self.draft: Draft | None = None
         self.nodes: set[Leaf] = set()
         # What it had when it was removed while it was open; and a count of its changes.
@@ -81,6 +85,8 @@ class Folder:
 
     def __init__(self, number: int, path: bytes, place: Place, shows: Shows, begin: int = 0) -> None:
         self.number, self.key, self.place, self.shows, self.begin, self.lookups = number, path, place, shows, begin, 0
+        # Each lookup asks this, and a member of an enum takes longer to find than an attribute.
+        self.shows_all = shows is Shows.FILES
         self.inode = inode_of(path)
 
 

@@ -16,7 +16,7 @@ import os
 import stat
 import time
 from collections.abc import Callable
-from typing import Concatenate, ParamSpec, TypeVar
+from typing import Any, TypeVar, cast
 
 from lisfs.client import Ended, NotAReply, NotSent, Refused
 from lisfs.constants import BLOCK_LEN, MAX_WORD
@@ -26,7 +26,6 @@ from lisfs.mount.image import Image
 from lisfs.mount.kernel import KEEP_CACHE, NO_FLUSH, Attributes, Caller, Changed, Changes, Created, Entry, Opened, Space
 from lisfs.mount.nodes import Draft, File, Folder, Handle, Leaf, Listed, Looks, Node, Shelf, Shows, inode_of, leaf_inode
 from lisfs.mount.shown import shown
-from lisfs.refusals import error_of
 from lisfs.words import FILE_NAME, head_of
 
 ALL, BY = b":all", b":by"
@@ -40,22 +39,26 @@ FOLDER_KIND, FILE_KIND = 4, 8
 KEPT_SECONDS = 3_600
 ROOT_NUMBER, NO_REPLACEMENT = 1, 1
 LINKS, FOLDER_LINKS = 2, 1
-P = ParamSpec("P")
-R = TypeVar("R")
+Call = TypeVar("Call", bound=Callable[..., Any])
 
 
 def fault(number: int, why: str) -> OSError:
     return OSError(number, why)
 
 
-def answering(call: Callable[Concatenate[Tree, P], R]) -> Callable[Concatenate[Tree, P], R]:
-    """What the program says, as an error of the system."""
+def answering(call: Call) -> Call:
+    """A call of a tree: what the program says, as an error of the system."""
+    # All that is asked goes through here, so no arguments are taken apart.
     @functools.wraps(call)
-    def answer(tree: Tree, /, *given: P.args, **named: P.kwargs) -> R:
+    def answer(*given: Any) -> Any:
+        tree: Tree = given[0]
         try:
-            tree.catch_up()
-            return call(tree, *given, **named)
+            if tree.is_shared:
+                tree.catch_up()
+            return call(*given)
         except Refused as refused:
+            # Few mounts meet a refusal, and the table of them is large.
+            from lisfs.refusals import error_of
             raise fault(error_of(refused.number), str(refused)) from None
         except (TooLarge, NotSent) as error:
             raise fault(errno.ENAMETOOLONG, str(error)) from None
@@ -67,7 +70,7 @@ def answering(call: Callable[Concatenate[Tree, P], R]) -> Callable[Concatenate[T
             raise fault(errno.EIO, str(error)) from None
         except Ended as end:
             raise fault(errno.EIO, str(end)) from None
-    return answer
+    return cast(Call, answer)
 
 
 def writes(flags: int) -> bool:
@@ -103,7 +106,9 @@ class Tree:
         self.image, self.user, self.group = image, os.getuid(), os.getgid()
         self.folder_mode, self.file_mode = (0o700, 0o600) if others else (0o755, 0o644)
         self.touched = now or time.time_ns()
-        self.kept_seconds = 0 if image.program.is_shared else KEPT_SECONDS
+        # Whether others change the image too, so that each call has news to ask for.
+        self.is_shared = image.program.is_shared
+        self.kept_seconds = 0 if self.is_shared else KEPT_SECONDS
         root = Folder(ROOT_NUMBER, b"", ROOT, Shows.DERIVED if with_derived else Shows.GIVEN)
         root.lookups = 1
         # By their numbers; and the folders by their paths, and the files by a path and the file.
@@ -112,7 +117,9 @@ class Tree:
         self.leaves: dict[tuple[bytes, File], Leaf] = {}
         # How folders look, by their paths.
         self.looks: dict[bytes, Looks] = {}
-        self.handles: dict[int, Handle | Shelf] = {}
+        # Open files and open folders, by their numbers.
+        self.handles: dict[int, Handle] = {}
+        self.shelves: dict[int, Shelf] = {}
         self.numbers = ROOT_NUMBER
         for file in image.files.values():
             self._begin(file, self.file_mode, self.user, self.group)
@@ -203,7 +210,7 @@ class Tree:
 
     def _file_at(self, folder: Folder, name: bytes) -> File | None:
         """The file of this name in a folder, or None."""
-        if folder.shows is not Shows.FILES and name in self.image.declared:
+        if not folder.shows_all and name in self.image.declared:
             return None
         file = self.image.files.get(name)
         return file if file and self.image.is_here(file, folder.place) else None
@@ -216,7 +223,7 @@ class Tree:
 
     def _is_folder(self, folder: Folder, name: bytes) -> bool:
         """Whether a folder opens under this name: a formula of words that are known, or a value of a declared head."""
-        if folder.shows is Shows.FILES:
+        if folder.shows_all:
             return False
         if name in (ALL, BY) or name in self.image.declared:
             return True
@@ -321,21 +328,19 @@ class Tree:
     @answering
     def opendir(self, number: int) -> int:
         handle = self._number()
-        self.handles[handle] = Shelf(self._folder(number))
+        self.shelves[handle] = Shelf(self._folder(number))
         return handle
 
     @answering
     def readdir(self, handle: int, offset: int) -> list[Listed]:
         """All entries. From the beginning they are made anew, and later ones are of that list, whatever is removed meanwhile."""
-        shelf = self.handles[handle]
-        if not isinstance(shelf, Shelf):
-            raise fault(errno.ENOTDIR, "a file")
+        shelf = self.shelves[handle]
         if not offset or not shelf.entries:
             shelf.entries = self._entries(shelf.folder)
         return shelf.entries
 
     def _entries(self, folder: Folder) -> list[Listed]:
-        if folder.shows is Shows.FILES:
+        if folder.shows_all:
             words: list[bytes] = []
             files = self.image.index.of(self.image.extension(folder.place))
         else:
@@ -345,7 +350,7 @@ class Tree:
         return entries + [(leaf_inode(folder, file), FILE_KIND, file.name) for file in files]
 
     def releasedir(self, handle: int) -> None:
-        del self.handles[handle]
+        del self.shelves[handle]
 
     @answering
     def fsyncdir(self) -> None:
@@ -355,7 +360,7 @@ class Tree:
     @answering
     def mkdir(self, number: int, name: bytes, mode: int, caller: Caller) -> Entry:
         folder = self._folder(number)
-        if folder.shows is Shows.FILES:
+        if folder.shows_all:
             raise fault(errno.EPERM, "no words are here")
         if name in (ALL, BY):
             raise fault(errno.EEXIST, "it is here already")
@@ -385,7 +390,7 @@ class Tree:
 
     def _new_name(self, folder: Folder, name: bytes) -> None:
         if name in (ALL, BY) or name in self.image.declared:
-            raise fault(errno.EEXIST if folder.shows is Shows.FILES else errno.EISDIR, "a folder has this name")
+            raise fault(errno.EEXIST if folder.shows_all else errno.EISDIR, "a folder has this name")
         if not FILE_NAME.fullmatch(name):
             raise fault(errno.EINVAL, "a name has letters, digits and _ - . + @")
         if len(name) > MAX_WORD:
@@ -461,7 +466,7 @@ class Tree:
         self.image.replace(file, content, other)
         self._is_gone(other, kept)
         if draft and draft.is_dirty:
-            self._is_stored(file, None)
+            self._is_stored(file, draft, None)
 
     def _move(self, file: File, place: Place, target: Folder, new: bytes) -> None:
         """A stop between the two commands that this may take leaves the file with its new name, where it was."""
@@ -504,7 +509,7 @@ class Tree:
         if writes(flags):
             self._may_change(node.file)
         handle = self._opened(node, flags)
-        if self._open_file(handle).writes:
+        if self.handles[handle].writes:
             return Opened(handle, 0)
         is_kept = node.version == node.file.version and not node.writers
         node.version = node.file.version
@@ -514,18 +519,12 @@ class Tree:
         if self._is_marker(file):
             raise fault(errno.EPERM, "no file of the image")
 
-    def _open_file(self, handle: int) -> Handle:
-        found = self.handles[handle]
-        if not isinstance(found, Handle):
-            raise fault(errno.EISDIR, "a folder")
-        return found
-
     def _opened(self, node: Leaf, flags: int) -> int:
         handle = self._number()
         file = node.file
-        self.handles[handle] = Handle(node, writes(flags))
+        opened = self.handles[handle] = Handle(node, writes(flags))
         file.handles += 1
-        if writes(flags):
+        if opened.writes:
             file.draft = file.draft or Draft()
             file.draft.writers += 1
             node.writers += 1
@@ -582,29 +581,29 @@ class Tree:
         """The bytes of a file without what is written to it and not stored. A marker has none."""
         return file.kept if file.is_gone or self._is_marker(file) else self.image.content(file)
 
-    def _drafted(self, file: File) -> bytearray:
+    def _drafted(self, file: File, draft: Draft) -> bytearray:
         """The bytes that are written to."""
         self._must_be_here(file)
-        draft = draft_to_write(file)
         if draft.content is None:
             draft.content = bytearray(self._stored(file))
         return draft.content
 
     @answering
     def read(self, handle: int, offset: int, size: int) -> bytes | bytearray:
-        return self._content(self._open_file(handle).node)[offset:offset + size]
+        return self._content(self.handles[handle].node)[offset:offset + size]
 
     @answering
     def write(self, handle: int, offset: int, data: bytes | memoryview, flags: int) -> int:
-        node = self._open_file(handle).node
-        file, content = node.file, self._drafted(node.file)
+        node = self.handles[handle].node
+        draft = draft_to_write(node.file)
+        content = self._drafted(node.file, draft)
         if flags & os.O_APPEND:
             offset = len(content)
         self._fits(offset + len(data))
         if offset > len(content):
             content.extend(bytes(offset - len(content)))
         content[offset:offset + len(data)] = data
-        draft_to_write(file).is_written(time.time_ns())
+        draft.is_written(time.time_ns())
         self._is_written(node)
         return len(data)
 
@@ -619,63 +618,65 @@ class Tree:
             raise fault(errno.EISDIR, "a folder")
         self._may_change(node.file)
         self._fits(size)
-        if handle is not None and self._open_file(handle).writes:
+        if handle is not None and self.handles[handle].writes:
             self._cut(node, size)
             return
-        temporary = self._open_file(self._opened(node, os.O_WRONLY))
+        temporary = self.handles[self._opened(node, os.O_WRONLY)]
         try:
             self._cut(node, size)
-            self._commit(node)
+            self._commit(node, draft_to_write(node.file))
         finally:
             # A draft of its own is dropped where it was refused.
             self._end_writing(temporary)
 
     def _cut(self, node: Leaf, size: int) -> None:
-        content = self._drafted(node.file)
+        draft = draft_to_write(node.file)
+        content = self._drafted(node.file, draft)
         if size < len(content):
             del content[size:]
         else:
             content.extend(bytes(size - len(content)))
-        draft_to_write(node.file).is_written(time.time_ns())
+        draft.is_written(time.time_ns())
         self._is_written(node)
 
     @answering
     def flush(self, handle: int, process: int) -> None:
         """Somebody closes the file. A shell opens the file of `> x`, makes it the output of what it runs, and closes the first of the two,
         before a byte is written: that is no end of the writing."""
-        closed = self._open_file(handle)
+        closed = self.handles[handle]
         self._must_be_made(closed.file)
-        if closed.writes and self._is_unstored(closed.file):
-            draft = draft_to_write(closed.file)
-            if draft.is_dirty and not draft.is_emptied or not is_open_in(process, closed.node.inode):
-                self._commit(closed.node)
+        if not closed.writes:
+            return
+        draft = draft_to_write(closed.file)
+        if self._is_unstored(closed.file, draft) and (
+                draft.is_dirty and not draft.is_emptied or not is_open_in(process, closed.node.inode)):
+            self._commit(closed.node, draft)
 
-    def _is_unstored(self, file: File) -> bool:
+    def _is_unstored(self, file: File, draft: Draft) -> bool:
         """Whether it has other bytes than in the image, or isn't there yet."""
-        return draft_to_write(file).is_dirty or file is self.image.waiting
+        return draft.is_dirty or file is self.image.waiting
 
     @answering
     def fsync(self, handle: int) -> None:
-        node = self._open_file(handle).node
+        node = self.handles[handle].node
         self._must_be_made(node.file)
-        if node.file.draft and self._is_unstored(node.file):
-            self._commit(node)
+        draft = node.file.draft
+        if draft and self._is_unstored(node.file, draft):
+            self._commit(node, draft)
 
-    def _commit(self, node: Leaf) -> None:
+    def _commit(self, node: Leaf, draft: Draft) -> None:
         """Stores the draft whole. Where it is refused it stays, and can be tried again."""
         file = node.file
         self._must_be_here(file)
         if not file.is_gone:
-            draft = draft_to_write(file)
             try:
                 self.image.write(file, bytes(draft.content or b""))
             except Refused:
                 draft.is_refused = True
                 raise
-        self._is_stored(file, node)
+        self._is_stored(file, draft, node)
 
-    def _is_stored(self, file: File, node: Leaf | None) -> None:
-        draft = draft_to_write(file)
+    def _is_stored(self, file: File, draft: Draft, node: Leaf | None) -> None:
         file.looks.modified = draft.modified or file.looks.modified
         draft.is_dirty = draft.is_emptied = draft.is_refused = False
         file.version += 1
@@ -684,9 +685,7 @@ class Tree:
     @answering
     def release(self, handle: int) -> None:
         """Nobody has this handle any more."""
-        closed = self._open_file(handle)
-        del self.handles[handle]
-        self._end_writing(closed)
+        self._end_writing(self.handles.pop(handle))
 
     def _end_writing(self, handle: Handle) -> None:
         file, node = handle.file, handle.node
@@ -703,8 +702,8 @@ class Tree:
             return
         try:
             # What was written through memory, behind the last close. What a close was refused is dropped: its caller was told.
-            if self._is_unstored(file) and not draft.is_refused:
-                self._commit(node)
+            if self._is_unstored(file, draft) and not draft.is_refused:
+                self._commit(node, draft)
         except (Refused, OSError) as error:
             self._lose(file, f"what was written after the last close is lost: {error}")
         finally:
@@ -722,9 +721,9 @@ class Tree:
     def finish(self) -> None:
         """Stores what was written and not closed, when nobody asks any more, as a close would. Tells each file that can't be stored."""
         self.changed = lambda number: None
-        written = {handle.file: handle.node for handle in self.handles.values() if isinstance(handle, Handle) and handle.writes}
+        written = {handle.file: handle.node for handle in self.handles.values() if handle.writes}
         for file, node in written.items():
-            if file.refusal or (file.is_lost or not file.is_gone) and self._is_unstored(file):
+            if file.refusal or (file.is_lost or not file.is_gone) and self._is_unstored(file, draft_to_write(file)):
                 try:
                     self._store(node)
                 except OSError as error:
@@ -732,4 +731,4 @@ class Tree:
 
     @answering
     def _store(self, node: Leaf) -> None:
-        self._commit(node)
+        self._commit(node, draft_to_write(node.file))

@@ -4,8 +4,6 @@ Which files the image has, and which words they were given, is known from its du
 of a file are in the index that the tools share: `props` says them again after each change. So which files are at a place is looked up there,
 by the text in which the program prints the place. Each change is kept with what undoes it.
 """
-from __future__ import annotations
-
 import collections
 import contextlib
 from collections.abc import Callable, Iterable, Iterator, KeysView, Sequence
@@ -224,7 +222,7 @@ class Session(Following[File]):
 
     # What others change.
 
-    def catch_up(self) -> News | None:
+    def catch_up(self) -> "News | None":
         if news := super().catch_up():
             self.changes += 1
         return news
@@ -233,7 +231,7 @@ class Session(Following[File]):
         self._stale.discard(file)
         self.index.drop(file)
 
-    def _take_axioms(self, news: News) -> None:
+    def _take_axioms(self, news: "News") -> None:
         self.axioms = set(news.axioms) if news.whole else self.axioms - news.unaxioms | news.axioms
 
     def _is_stale(self, files: set[File]) -> None:

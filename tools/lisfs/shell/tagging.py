@@ -1,6 +1,4 @@
 """The shell's own commands that change words of files, and `undo`."""
-from __future__ import annotations
-
 import contextlib
 from collections.abc import Iterator, Sequence
 from typing import NamedTuple

@@ -1,6 +1,4 @@
 """What undoes each command: other commands, all of them for the root, and words of files that are given back or taken back."""
-from __future__ import annotations
-
 import re
 from collections.abc import Callable, Mapping, Sequence
 from typing import NamedTuple, TypeAlias

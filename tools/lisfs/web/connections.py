@@ -13,11 +13,11 @@ import selectors
 import socket
 import sys
 import time
-import traceback
 from collections.abc import Callable
 from typing import Protocol
 
-from lisfs.showing import harmless, write_line
+from lisfs.endings import say_fault
+from lisfs.showing import harmless
 from lisfs.web.site import HEAD, POLICY, Answer, Request, Wrong
 
 READ, WRITE = selectors.EVENT_READ, selectors.EVENT_WRITE
@@ -144,7 +144,7 @@ class Connections:
             self._close(connection)
         except Exception:
             # A mistake of the reader of requests ends one of them.
-            write_line(sys.stderr, traceback.format_exc().rstrip("\n"), "\n")
+            say_fault()
             self._close(connection)
 
     def _read(self, connection: Connection) -> None:

@@ -4,8 +4,6 @@ What a place is, and what it shows, the program says. The index says how many fi
 the two agree is looked at each time: the files that no word covers are those that the program shows, and each word leaves some files and not
 all.
 """
-from __future__ import annotations
-
 import functools
 import hashlib
 from collections.abc import Callable, Collection, Iterable, Mapping, Sequence
@@ -81,7 +79,7 @@ class Image(image.Image[File]):
         self.last: Undo | None = None
         self.describe(self.index.files.values())
 
-    def _take_axioms(self, news: News) -> None:
+    def _take_axioms(self, news: "News") -> None:
         self.axioms = set(news.axioms) if news.whole else self.axioms - news.unaxioms | news.axioms
 
     # Questions.

@@ -1,6 +1,5 @@
 """The pages: what each shows of an image. The templates beside this make HTML of it; each page works without a script, and has no address but
 of these pages."""
-import dataclasses
 from collections.abc import Iterable, Sequence
 from typing import NamedTuple
 
@@ -53,22 +52,20 @@ class Step(NamedTuple):
     joined: bytes | None
 
 
-@dataclasses.dataclass(frozen=True)
-class Word:
-    """A word with the place to which it leads. `shown` is what stands under its head."""
+class Word(NamedTuple):
+    """A word with the place to which it leads, and how many files it leaves. `shown` is what stands under its head."""
     text: bytes
     at: bytes
-    count: int = 0
+    files: int = 0
     shown: bytes = b""
     is_given: bool = False
 
 
-@dataclasses.dataclass(frozen=True)
-class Card:
-    """A group of a listing. `more` leads to all of it, where that is more than is shown."""
+class Card(NamedTuple):
+    """A group of a listing, and how many words it has. `more` leads to all of them, where these are more than are shown."""
     title: str
     words: list[Word]
-    count: int
+    total: int
     more: str | None
 
 

@@ -13,14 +13,13 @@ import io
 import os
 import re
 import secrets
-import traceback
 import urllib.parse
 from collections.abc import Callable
 from typing import NamedTuple
 
 from lisfs.client import Ended, NotAReply, NotSent, Refused, Retagged
 from lisfs.constants import BAD_FORMULA, BAD_LINE, LARGE_FILE, LARGE_FORMULA, MAX_FORMULA, MAX_LINE, MAX_WORD, NO_FILE_HERE, NOT_A_PLACE
-from lisfs.endings import say
+from lisfs.endings import say, say_fault
 from lisfs.formulas import joined
 from lisfs.refusals import left_out, sentence, sentence_about
 
@@ -249,7 +248,7 @@ class Site:
             return self._over(": ".join(end.text.splitlines()) or str(end))
         except Exception:
             # A mistake of these pages ends one of them, and not the session.
-            say(traceback.format_exc().rstrip("\n"), "\n")
+            say_fault()
             told, status = "These pages have a mistake here, which standard error shows. It affects nothing else.", 500
         given = self._given(request, body)
         meant = [given[name] for name in MEANT if given.get(name)]

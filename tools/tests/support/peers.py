@@ -121,7 +121,7 @@ def replies_in(shown: bytes) -> Shown:
     cut, found = Replies(), []
     cut.shown += shown
     while taken := cut.take():
-        found.append(taken.whole)
+        found.append(taken[0])
     return Shown(found, not cut.shown)
 
 
