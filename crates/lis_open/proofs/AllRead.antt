@@ -35,6 +35,7 @@ use Rattle.lis_kept.specs.Rows.{row_bytes}
 use Rattle.lis_kept.proofs.Formed.{some_word}
 use Rattle.lis_kept.proofs.Known.{number_told}
 use Rattle.lis_open.specs.Checks.RowFault.{RowWrong, RestNotZero}
+use Rattle.lis_ports.specs.Calls.{Rose}
 use Rattle.lis_open.specs.Reading.{IsFirst, IsFirstOfAll, HasPartCause, Recalls, KindFails, PartsFail}
 use Rattle.lis_open.proofs.Damage.{one_contents}
 use Rattle.lis_open.proofs.SpotKinds.{none_before, none_fails}
@@ -408,6 +409,13 @@ on_ok (Ok done) holds = holds
 on_ok (Err fault) holds = tt
 
 -- ---- causes
+-- of a reader, after one that ended well
+pub later_cause : (S T : Type 0) (before between now : ℕ) (fault : OpenFault) → between ≡ before → HasPartCause {T = S} between now (Err fault) → HasPartCause {T = T} before now (Err fault)
+later_cause S T before between now (TooShort len need) same cause = cause
+later_cause S T before between now (Damaged spot) same cause = cause ∙ same
+later_cause S T before between now DiskFault same cause = subst (λ n. Rose n now) same cause
+later_cause S T before between now NoMemory same cause = cause
+
 pub stray_cause : (T : Type 0) (before now : ℕ) (k : Metadata) (fault : OpenFault) → now ≡ before → HasStray k fault → HasPartCause {T = T} before now (Err fault)
 stray_cause T before now k (TooShort len need) same stray = stray
 stray_cause T before now k (Damaged spot) same stray = same

@@ -1,21 +1,20 @@
--- The words of property slots, read one after another.
+-- The words of property slots: read one after another, and sorted once.
 use Rattle.lis_open.proofs.Common.{rules, ◌≡◌, ◌∙◌, refl, sym, ap, subst, inl, ℕ, ◌+◌, ◌<◌, Bool, true, false, not, cond, is_some, Option, Some, None, List, replicate, get_or, IsTrue, IsSome, arith, eq-eqb, ap₂, option_to_list, [], map, ⊎_elim, IfSome, length-set, get_or-set_same, get_or-set_other, ne_eqb, fold, cases_lt, length-replicate, same_Some, Meaning, DiskFaultEnds, Held, Fits, slot, is_taken, number_of, word_of, word_from_number, number_from_word, number_below, prop_bytes, is_prop, PropSlot, FreeProp, are_in_range, Limits, Property, property_by, property_slots, few_properties, some_number, word_in, insert_key, Among, among_map, map_among, among_flat_map, Filed, AxiomSlot, FreeAxiom, Pair, among_from_has_word, among_set_of, sorted_set_of, Metadata, bit_of, pair_by, pair_told, axioms_of, bytes_told, file_told, declared_there, there_declared, words_in, word_at, both_ways, get_or_past, has_word, flat_map_among, has_word_from_among, set_of_among, set_of, File, pair_cmp, file_of_record}
 use Rattle.lis_open.proofs.Once.{each_number}
 use Rattle.std.proofs.lemmas.Bool.{not-true, not-false}
 use Rattle.std.proofs.lemmas.List.{get_or-replicate}
-use Rattle.lis_dict.proofs.Laws.{word_of-with_entry, length-with_entry, kept_with_entry}
-use Rattle.lis_fields.proofs.Parts.{undeclared_word, declarable_word}
+use Rattle.lis_dict.specs.Dict.{Dict, IsDict, HasWords, IsAgain, IsFirstAgain}
 use Rattle.lis_fields.specs.declared.slots.PropSlot.TheVariants.{Known, Declared}
-use Rattle.lis_words.specs.Words.{is_property}
 use Rattle.lis_kept.specs.Metadata.{property_at}
 use Rattle.lis_store.proofs.Admitted.{none_there}
 use Rattle.lis_store.proofs.Spelled.{word_by, declared_by as declared_by_slot}
 use Rattle.lis_open.specs.declared.blocks.LastBlock.{LastBlock}
 use Rattle.lis_open.specs.declared.words.Words.{Words}
-use Rattle.lis_open.specs.Checks.{IsProperty, HasWord, HasWordBefore, PropertyFails, AreProperties, declared_by, axioms_by}
+use Rattle.lis_open.specs.declared.words.WordSlots.{WordSlots}
+use Rattle.lis_open.specs.Checks.{IsProperty, HasWord, PropertyFails, AreProperties, declared_by, axioms_by}
 use Rattle.lis_ports.specs.Calls.{OnlyReads}
 use Rattle.lis_open.specs.Reading.{Recalls, IsReadAs, IsFirst, Passes}
-use Rattle.lis_open.specs.ReadWords.{no_words, with_word, may_take_property, with_property, AreWords, AreFirstWords, WordsAreSpelled, declared_words, kept_words}
+use Rattle.lis_open.specs.ReadWords.{no_words, slot_word, property_read, with_word, with_property, AreFirstSlots, SlotsAreSpelled, SlotsEnded, AreWords, AreFirstWords, WordsAreSpelled, declared_words, kept_words}
 use Rattle.lis_open.proofs.SpotKinds.{none_before, none_fails}
 use Rattle.lis_open.proofs.BlocksRead.{StillRecalls, one_property}
 use Rattle.std.specs.List.{range_with_len}
@@ -35,149 +34,180 @@ pub old_from : (o : Option ℕ) → not (is_some o) ≡ false → (n : ℕ) × (
 old_from o old = some_number o (not-false (is_some o) old)
 
 -- ---- one word more
-module _ (words : Words) (number : ℕ) (word : List ℕ) (is_declared : Bool) (are : AreWords words) (below : number < words.dict.props) (free : word_of words.dict number ≡ None) (new : number_of words.dict word ≡ None) where
-  abbrev with_it : Words
-  with_it = with_word words number word is_declared
-
-  word_here : word_of with_it.dict number ≡ Some word
-  word_here = word_of-with_entry words.dict word number new free number ∙ ap (λ b. cond b (Some word) (word_of words.dict number)) (eq-eqb number number refl)
-
-  word_there : (m : ℕ) → (m ≡ number → ⊥) → word_of with_it.dict m ≡ word_of words.dict m
-  word_there m differ = word_of-with_entry words.dict word number new free m ∙ ap (λ b. cond b (Some word) (word_of words.dict m)) (ne_eqb number m (λ e. differ (sym e)))
+module _ (slots : WordSlots) (number : ℕ) (word : List ℕ) (is_declared : Bool) (limits : Limits) (first : AreFirstSlots limits slots number) (below : number < limits.props) where
+  abbrev with_it : WordSlots
+  with_it = with_word slots number word is_declared
 
   -- what holds of the word, and of each other number as it was, holds of each number
-  at_each : (P : ℕ → Option (List ℕ) → Bool → Type 0) → P number (Some word) is_declared → ((m : ℕ) → (m ≡ number → ⊥) → P m (word_of words.dict m) (is_taken words.declared m))
-      → (m : ℕ) → P m (word_of with_it.dict m) (is_taken with_it.declared m)
+  at_each : (P : ℕ → Option (List ℕ) → Bool → Type 0) → P number (Some word) is_declared → ((m : ℕ) → (m ≡ number → ⊥) → P m (slot_word slots m) (is_taken slots.declared m))
+      → (m : ℕ) → P m (slot_word with_it m) (is_taken with_it.declared m)
   at_each P here there =
-      each_number (λ n. P n (word_of with_it.dict n) (is_taken with_it.declared n)) number
-      (subst (λ o. P number o (is_taken with_it.declared number)) (sym word_here)
-      (subst (P number (Some word)) (sym (get_or-set_same words.declared number is_declared false (omega (arith, are.long, below)))) here)) (λ m differ.
-      subst (λ o. P m o (is_taken with_it.declared m)) (sym (word_there m differ))
-      (subst (P m (word_of words.dict m)) (sym (get_or-set_other words.declared number m is_declared false differ)) (there m differ)))
+      each_number (λ n. P n (slot_word with_it n) (is_taken with_it.declared n)) number
+      (subst (λ o. P number o (is_taken with_it.declared number)) (sym (get_or-set_same slots.unsorted number (Some word) None (omega (arith, first.long, below))))
+      (subst (P number (Some word)) (sym (get_or-set_same slots.declared number is_declared false (omega (arith, first.flags, below)))) here)) (λ m differ.
+      subst (λ o. P m o (is_taken with_it.declared m)) (sym (get_or-set_other slots.unsorted number m (Some word) None differ))
+      (subst (P m (slot_word slots m)) (sym (get_or-set_other slots.declared number m is_declared false differ)) (there m differ)))
 
-  module _ (limits : Limits) (first : AreFirstWords limits words number) where
-    -- each word so far has its own slot, so there is room for this one
-    first_more : IsTrue (is_property word) → IsTrue (is_prop (property_by (Some word) is_declared)) → AreFirstWords limits with_it (number + 1)
-    first_more form here = record {
-      are = record {
-        dict = kept_with_entry words.dict word number new are.dict form below free (omega (arith, length-with_entry words.dict word number new, first.counted, below));
-        few = are.few;
-        long = length-set words.declared number is_declared ∙ are.long;
-        forms = at_each (λ m o bit. IsTrue (is_prop (property_by o bit))) here (λ m differ. are.forms m);
-        flagged = at_each (λ m o bit. bit ≡ true → IsSome o) (λ bit. refl) (λ m differ. are.flagged m);
-      };
-      props = first.props;
-      rest = λ n le. word_there n (λ e. omega arith) ∙ first.rest n (omega arith);
-      counted = omega (arith, length-with_entry words.dict word number new, first.counted);
-    }
-
-    spelled_more : (at : ℕ → List ℕ) → WordsAreSpelled limits at words number → slot (property_slots limits) at number ≡ prop_bytes (property_by (Some word) is_declared) → WordsAreSpelled limits at with_it (number + 1)
-    spelled_more at spelled here =
-        at_each (λ n o bit. n < number + 1 → slot (property_slots limits) at n ≡ prop_bytes (property_by o bit)) (λ lt. here) (λ n differ lt. spelled n (omega arith))
-
--- ---- one slot more
-module _ (limits : Limits) (words : Words) (number : ℕ) (first : AreFirstWords limits words number) (below : number < limits.props) where
-  free : word_of words.dict number ≡ None
-  free = first.rest number (omega arith)
-
-  -- the words with what a slot has, which is spelled if the earlier slots are
-  abbrev AreMore : Words → PropSlot → Type 0
-  AreMore next property =
-      AreFirstWords limits next (number + 1)
-      × ((at : ℕ → List ℕ) → WordsAreSpelled limits at words number → IsProperty limits at number property → WordsAreSpelled limits at next (number + 1))
-
-  word_on : (w : List ℕ) (is_declared : Bool) → IsTrue (is_property w) → IsTrue (is_prop (property_by (Some w) is_declared)) → not (is_some (number_of words.dict w)) ≡ true
-      → AreMore (with_word words number w is_declared) (property_by (Some w) is_declared)
-  word_on w is_declared form here may =
-      let in_dict : number < words.dict.props = omega (arith, first.props, below) in
-      let new = new_from (number_of words.dict w) may in (
-        first_more words number w is_declared first.are in_dict free new limits first form here,
-        λ at spelled read. spelled_more words number w is_declared first.are in_dict free new limits first at spelled read.bytes,
-      )
-
-  free_on : AreMore words FreeProp
-  free_on = search (rules, free)
-
-  pub slot_on : (found : Option PropSlot) (next : Words) → IfSome found (λ property. IsTrue (is_prop property)) → may_take_property words found ≡ true → next ≡ with_property words number found
-      → AreFirstWords limits next (number + 1)
-      × ((at : ℕ → List ℕ) → WordsAreSpelled limits at words number → IsReadAs prop_bytes is_prop (property_slots limits) at number found → WordsAreSpelled limits at next (number + 1))
-  slot_on None next form may is = absurd cc
-  slot_on (Some FreeProp) next form may is = subst (λ (w : Words). AreMore w FreeProp) (sym is) free_on
-  slot_on (Some (Known w)) next form may is = subst (λ (x : Words). AreMore x (Known w)) (sym is) (word_on w false (undeclared_word w form) form may)
-  slot_on (Some (Declared w)) next form may is = subst (λ (x : Words). AreMore x (Declared w)) (sym is) (word_on w true (declarable_word w form) form may)
-
--- ---- the checks of slots
-module _ (limits : Limits) (at : ℕ → List ℕ) (words : Words) (end : ℕ) (first : AreFirstWords limits words end) (spelled : WordsAreSpelled limits at words end) where
-  -- a slot below the end, as it was read
-  pub property_is : (n : ℕ) → n < end → n < limits.props → IsProperty limits at n (property_at words.dict words.declared n)
-  property_is n lt below = record { below = below; bytes = spelled n lt; range = first.are.forms n }
-
-  -- a number that has a word is below the end
-  number_read : (n : ℕ) (w : List ℕ) → word_of words.dict n ≡ Some w → n < end
-  number_read n w is = ⊎_elim (λ lt. lt) (λ past. absurd (let none = sym (first.rest n past) ∙ is in cc)) (cases_lt n end)
-
-  pub its_word : (n : ℕ) (w : List ℕ) → word_of words.dict n ≡ Some w → HasWord limits at n w
-  its_word n w is =
-      let below : n < words.dict.props = number_below words.dict first.are.dict w n (number_from_word words.dict first.are.dict w n is) in
-      record {
-        property = property_at words.dict words.declared n;
-        is = property_is n (number_read n w is) (omega (arith, first.props, below));
-        has = word_by (word_of words.dict n) (is_taken words.declared n) ∙ is;
-      }
-
-  pub word_is : (n : ℕ) (w : List ℕ) → n < end → HasWord limits at n w → word_of words.dict n ≡ Some w
-  word_is n w lt has =
-      sym (word_by (word_of words.dict n) (is_taken words.declared n))
-      ∙ (ap word_in (one_property limits at n (property_at words.dict words.declared n) has.property (property_is n lt has.is.below) has.is) ∙ has.has)
-
-  pub property_passes : (n : ℕ) → n < end → PropertyFails limits at n → ⊥
-  property_passes n lt fails =
-      let found = fails.fault (property_at words.dict words.declared n) (property_is n lt fails.below) in
-      let here = number_from_word words.dict first.are.dict found.word n (sym (word_by (word_of words.dict n) (is_taken words.declared n)) ∙ found.has) in
-      let there = number_from_word words.dict first.are.dict found.word found.earlier (word_is found.earlier found.word (omega (arith, found.before)) found.there) in
-      let same : n ≡ found.earlier = same_Some n found.earlier (sym here ∙ there) in
-      omega (arith, found.before, same)
-
-  old_word : (w : List ℕ) (property : PropSlot) → not (is_some (number_of words.dict w)) ≡ false → word_in property ≡ Some w → HasWordBefore limits at end property
-  old_word w property may has =
-      let old = old_from (number_of words.dict w) may in
-      let is = word_from_number words.dict first.are.dict w old.0 old.1 in
-      record { word = w; has = has; earlier = old.0; before = number_read old.0 w is; there = its_word old.0 w is }
-
-  taken_before : (found : Option PropSlot) → may_take_property words found ≡ false → IsReadAs prop_bytes is_prop (property_slots limits) at end found → (property : PropSlot) → IsProperty limits at end property → HasWordBefore limits at end property
-  taken_before None may read property is = absurd (read property is)
-  taken_before (Some FreeProp) may read property is = absurd cc
-  taken_before (Some (Known w)) may read property is = old_word w property may (ap word_in (sym (one_property limits at end (Known w) property read is)))
-  taken_before (Some (Declared w)) may read property is = old_word w property may (ap word_in (sym (one_property limits at end (Declared w) property read is)))
-
-  pub property_fails : (found : Option PropSlot) → end < limits.props → may_take_property words found ≡ false → IsReadAs prop_bytes is_prop (property_slots limits) at end found → IsFirst limits at 2 (Property end)
-  property_fails found below may read = search (rules, taken_before, none_before, property_passes)
-
-  -- no check of this kind fails
-  pub words_pass : end ≡ limits.props → Passes limits at 2 (WordsAreSpelled limits at words limits.props)
-  words_pass all = record {
-    none = none_fails limits at 2 (λ n fails. property_passes n (omega (arith, all, fails.below)) fails);
-    is = subst (λ n. WordsAreSpelled limits at words n) all spelled;
+  first_more : IsTrue (is_prop (property_by (Some word) is_declared)) → AreFirstSlots limits with_it (number + 1)
+  first_more here = record {
+    within = omega (arith, below);
+    long = length-set slots.unsorted number (Some word) ∙ first.long;
+    flags = length-set slots.declared number is_declared ∙ first.flags;
+    rest = λ n le. get_or-set_other slots.unsorted number n (Some word) None (λ e. omega arith) ∙ first.rest n (omega arith);
+    forms = at_each (λ m o bit. IsTrue (is_prop (property_by o bit))) here (λ m differ. first.forms m);
+    flagged = at_each (λ m o bit. bit ≡ true → IsSome o) (λ bit. refl) (λ m differ. first.flagged m);
   }
 
+  spelled_more : (at : ℕ → List ℕ) → SlotsAreSpelled limits at slots number → slot (property_slots limits) at number ≡ prop_bytes (property_by (Some word) is_declared) → SlotsAreSpelled limits at with_it (number + 1)
+  spelled_more at spelled here =
+      at_each (λ n o bit. n < number + 1 → slot (property_slots limits) at n ≡ prop_bytes (property_by o bit)) (λ lt. here) (λ n differ lt. spelled n (omega arith))
+
+-- ---- one slot more
+module _ (limits : Limits) (slots : WordSlots) (number : ℕ) (first : AreFirstSlots limits slots number) (below : number < limits.props) where
+  free : slot_word slots number ≡ None
+  free = first.rest number (omega arith)
+
+  -- the slots with what one more has, which is spelled if the earlier ones are
+  abbrev AreMore : WordSlots → PropSlot → Type 0
+  AreMore next property =
+      AreFirstSlots limits next (number + 1)
+      × ((at : ℕ → List ℕ) → SlotsAreSpelled limits at slots number → IsProperty limits at number property → SlotsAreSpelled limits at next (number + 1))
+
+  word_on : (w : List ℕ) (is_declared : Bool) → IsTrue (is_prop (property_by (Some w) is_declared)) → AreMore (with_word slots number w is_declared) (property_by (Some w) is_declared)
+  word_on w is_declared form = (first_more slots number w is_declared limits first below form, λ at spelled read. spelled_more slots number w is_declared limits first below at spelled read.bytes)
+
+  free_on : AreMore slots FreeProp
+  free_on = search (rules, free)
+
+  pub slot_on : (property : PropSlot) (next : WordSlots) → IsTrue (is_prop property) → next ≡ with_property slots number property
+      → AreFirstSlots limits next (number + 1)
+      × ((at : ℕ → List ℕ) → SlotsAreSpelled limits at slots number → IsProperty limits at number property → SlotsAreSpelled limits at next (number + 1))
+  slot_on FreeProp next form is = subst (λ (w : WordSlots). AreMore w FreeProp) (sym is) free_on
+  slot_on (Known w) next form is = subst (λ (x : WordSlots). AreMore x (Known w)) (sym is) (word_on w false form)
+  slot_on (Declared w) next form is = subst (λ (x : WordSlots). AreMore x (Declared w)) (sym is) (word_on w true form)
+
+-- ---- what was found in a slot
+pub form_there : (property : PropSlot) (found : Option PropSlot) → found ≡ Some property → IfSome found (λ value. IsTrue (is_prop value)) → IsTrue (is_prop property)
+form_there property found is form = subst (λ o. IfSome o (λ value. IsTrue (is_prop value))) is form
+
+pub read_there : (limits : Limits) (at : ℕ → List ℕ) (n : ℕ) (property : PropSlot) (found : Option PropSlot) → found ≡ Some property → IsReadAs prop_bytes is_prop (property_slots limits) at n found → IsProperty limits at n property
+read_there limits at n property found is read = subst (λ o. IsReadAs prop_bytes is_prop (property_slots limits) at n o) is read
+
+pub ended_at : (limits : Limits) (at : ℕ → List ℕ) (slots : WordSlots) (end : ℕ) (found : Option PropSlot) → SlotsAreSpelled limits at slots end → found ≡ None
+    → IsReadAs prop_bytes is_prop (property_slots limits) at end found → SlotsEnded limits at slots end
+ended_at limits at slots end found spelled none read = record { spelled = spelled; malformed = λ below. subst (λ o. IsReadAs prop_bytes is_prop (property_slots limits) at end o) none read }
+
+-- ---- the words, sorted
+module _ (limits : Limits) (slots : WordSlots) (end : ℕ) (first : AreFirstSlots limits slots end) (d : Dict) (kept : IsDict d) (has : HasWords d slots.unsorted) where
+  pub words_made : IsTrue (are_in_range limits) → AreFirstWords limits (record { dict = d; declared = slots.declared }) limits.props
+  words_made range =
+      let props : d.props ≡ limits.props = has.0 ∙ first.long in
+      record {
+        are = record {
+          dict = kept;
+          few = omega (arith, props, few_properties limits range);
+          long = first.flags ∙ sym props;
+          forms = λ n. subst (λ o. IsTrue (is_prop (property_by o (is_taken slots.declared n)))) (sym (has.1 n)) (first.forms n);
+          flagged = λ n bit. subst IsSome (sym (has.1 n)) (first.flagged n bit);
+        };
+        props = props;
+        rest = λ n le. has.1 n ∙ first.rest n (omega (arith, le, first.within));
+        counted = omega (arith, props, kept.few);
+      }
+
+  -- no word has two numbers
+  pub none_again : (n : ℕ) → IsAgain slots.unsorted n → ⊥
+  none_again n again =
+      let here = number_from_word d kept again.1 n (has.1 n ∙ again.4) in
+      let there = number_from_word d kept again.1 again.0 (has.1 again.0 ∙ again.3) in
+      let same : n ≡ again.0 = same_Some n again.0 (sym here ∙ there) in
+      omega (arith, again.2, same)
+
+-- ---- the checks of slots
+module _ (limits : Limits) (at : ℕ → List ℕ) (slots : WordSlots) (end : ℕ) (first : AreFirstSlots limits slots end) (spelled : SlotsAreSpelled limits at slots end) where
+  -- a slot below the end, as it was read
+  property_is : (n : ℕ) → n < end → IsProperty limits at n (property_read slots n)
+  property_is n lt = record { below = omega (arith, lt, first.within); bytes = spelled n lt; range = first.forms n }
+
+  -- a number that has a word is below the end
+  number_read : (n : ℕ) (w : List ℕ) → slot_word slots n ≡ Some w → n < end
+  number_read n w is = ⊎_elim (λ lt. lt) (λ past. absurd (let none = sym (first.rest n past) ∙ is in cc)) (cases_lt n end)
+
+  its_word : (n : ℕ) (w : List ℕ) → slot_word slots n ≡ Some w → HasWord limits at n w
+  its_word n w is = record { property = property_read slots n; is = property_is n (number_read n w is); has = word_by (slot_word slots n) (is_taken slots.declared n) ∙ is }
+
+  word_is : (n : ℕ) (w : List ℕ) → n < end → HasWord limits at n w → slot_word slots n ≡ Some w
+  word_is n w lt has = sym (word_by (slot_word slots n) (is_taken slots.declared n)) ∙ (ap word_in (one_property limits at n (property_read slots n) has.property (property_is n lt) has.is) ∙ has.has)
+
+  -- of the slots below the end, those fail whose word is there again
+  fails_again : (n : ℕ) → n < end → PropertyFails limits at n → IsAgain slots.unsorted n
+  fails_again n lt fails =
+      let found = fails.fault (property_read slots n) (property_is n lt) in (
+        found.earlier,
+        found.word,
+        found.before,
+        word_is found.earlier found.word (omega (arith, found.before, lt)) found.there,
+        sym (word_by (slot_word slots n) (is_taken slots.declared n)) ∙ found.has,
+      )
+
+  again_fails : (n : ℕ) → IsAgain slots.unsorted n → PropertyFails limits at n
+  again_fails n again =
+      let lt = number_read n again.1 again.4 in
+      record {
+        below = omega (arith, lt, first.within);
+        fault = λ property is. record {
+          word = again.1;
+          has = ap word_in (one_property limits at n property (property_read slots n) is (property_is n lt)) ∙ (word_by (slot_word slots n) (is_taken slots.declared n) ∙ again.4);
+          earlier = again.0;
+          before = again.2;
+          there = its_word again.0 again.1 again.3;
+        };
+      }
+
+  pub first_again : (n : ℕ) → IsFirstAgain slots.unsorted n → IsFirst limits at 2 (Property n)
+  first_again n least = record {
+    fails = again_fails n least.again;
+    is = refl;
+    none_before = none_before limits at 2 n (λ m lt fails.
+      least.first m lt (fails_again m (omega (arith, lt, number_read n least.again.1 least.again.4)) fails));
+  }
+
+  module _ (d : Dict) (kept : IsDict d) (has : HasWords d slots.unsorted) where
+    slot_passes : (n : ℕ) → n < end → PropertyFails limits at n → ⊥
+    slot_passes n lt fails = none_again limits slots end first d kept has n (fails_again n lt fails)
+
+    pub malformed_fails : end < limits.props → ((property : PropSlot) → IsProperty limits at end property → ⊥) → IsFirst limits at 2 (Property end)
+    malformed_fails below malformed = record {
+      fails = record { below = below; fault = λ property is. absurd (malformed property is) };
+      is = refl;
+      none_before = none_before limits at 2 end slot_passes;
+    }
+
+    -- no check of this kind fails
+    pub words_pass : end ≡ limits.props → Passes limits at 2 (WordsAreSpelled limits at (record { dict = d; declared = slots.declared }) limits.props)
+    words_pass all = record {
+      none = none_fails limits at 2 (λ n fails. slot_passes n (omega (arith, all, fails.below)) fails);
+      is = λ n lt. spelled n (omega (arith, all, lt)) ∙ ap (λ o. prop_bytes (property_by o (is_taken slots.declared n))) (sym (has.1 n));
+    }
+
 -- ---- the loop
-pub record WordsTurn (journal : Held) (limits : Limits) (old now : Meaning) (before last : LastBlock) (words : Words) (end : ℕ) : Type 0 where
+pub record SlotsTurn (journal : Held) (limits : Limits) (old now : Meaning) (before last : LastBlock) (slots : WordSlots) (end : ℕ) : Type 0 where
   pub reads : OnlyReads old now
   pub faults : now.disk_faults ≡ old.disk_faults
   pub first_fault : DiskFaultEnds old now
-  pub first : AreFirstWords limits words end
+  pub first : AreFirstSlots limits slots end
   pub recalls : StillRecalls journal old before last
-  pub spelled : (kept : ℕ → List ℕ) → Fits journal old kept → Recalls before kept → WordsAreSpelled limits kept words end
+  pub spelled : (kept : ℕ → List ℕ) → Fits journal old kept → Recalls before kept → SlotsAreSpelled limits kept slots end
 
 -- a list of one repeated value has it at each index, and past its end
 pub nothing_at : {X : Type 0} (n k : ℕ) (x : X) → get_or (replicate n x) k x ≡ x
 nothing_at n k x =
     ⊎_elim (get_or-replicate n k x x) (λ past. get_or_past (replicate n x) k x (omega (arith, past, length-replicate n x))) (cases_lt k n)
 
--- if the words are those before anything was read
-pub first_words : (limits : Limits) (words : Words) → IsTrue (are_in_range limits) → words ≡ no_words limits → AreFirstWords limits words 0
+-- before anything is read
+pub no_slots : (limits : Limits) (slots : WordSlots) → slots ≡ no_words limits → AreFirstSlots limits slots 0
 unfolding no_words
-first_words limits words range none = search (rules, few_properties, length-replicate, both_ways, nothing_at)
+no_slots limits slots none = search (rules, length-replicate, both_ways, nothing_at)
 
 -- ---- the property slots that words spell, and what they represent
 -- the property slots of all numbers

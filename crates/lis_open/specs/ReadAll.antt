@@ -21,6 +21,7 @@ use Rattle.lis_open.specs.declared.words.Words.{Words}
 use Rattle.lis_open.specs.declared.axioms.Axioms.{Axioms}
 use Rattle.lis_open.specs.declared.files.Files.{Files}
 use Rattle.lis_open.specs.declared.memory.OpeningMemory.{OpeningMemory}
+use Rattle.lis_open.specs.declared.memory.LaterMemory.{LaterMemory}
 use Rattle.lis_open.specs.Checks.{Fails, rank}
 use Rattle.lis_open.specs.Reading.{PartsFail}
 use Rattle.lis_open.specs.ReadWords.{no_words, AreNoAxioms, AreFirstWords, AreFirstAxioms, WordsAreSpelled, AxiomsAreSpelled}
@@ -32,13 +33,17 @@ pub record AreNoMarks (limits : Limits) (marks : List Bool) : Type 0 where
   pub long : data_start limits ≤ length marks
   pub none : marks ≡ replicate (length marks) false
 
--- nothing was read yet
-pub record IsEmptyMemory (limits : Limits) (memory : OpeningMemory) : Type 0 where
-  pub words : memory.words ≡ no_words limits
+-- nothing was read after the words yet
+pub record IsEmptyLater (limits : Limits) (memory : LaterMemory) : Type 0 where
   pub axioms : AreNoAxioms limits memory.axioms
   pub files : memory.files ≡ no_files limits
   pub row : HasShape memory.row 1 limits.props
   pub marks : AreNoMarks limits memory.marks
+
+-- nothing was read yet
+pub record IsEmptyMemory (limits : Limits) (memory : OpeningMemory) : Type 0 where
+  pub words : memory.words ≡ no_words limits
+  pub later : IsEmptyLater limits memory.later
 
 -- the metadata that memory keeps of what was read
 abbrev pub metadata_in : Limits → Words → Axioms → Files → List Bool → Metadata
@@ -145,6 +150,10 @@ pub record AreSpelled (limits : Limits) (at : ℕ → List ℕ) (words : Words) 
 abbrev pub PartsEnded : {T : Type 0} → Limits → (ℕ → List ℕ) → Words → Axioms → Files → Result T OpenFault → Type 0
 PartsEnded limits at words axioms files (Ok done) = AreSpelled limits at words axioms files
 PartsEnded limits at words axioms files (Err fault) = PartsFail limits at fault
+
+abbrev pub AllEnded : Limits → (ℕ → List ℕ) → Axioms → Files → Result Words OpenFault → Type 0
+AllEnded limits at axioms files (Ok words) = AreSpelled limits at words axioms files
+AllEnded limits at axioms files (Err fault) = PartsFail limits at fault
 
 -- a store that represents a state, and is written in these blocks
 pub record StoreTells (at : ℕ → List ℕ) (store : Stored) : Type 0 where

@@ -1,9 +1,9 @@
 -- What is read of words and axioms. No public clause cites this module.
-use Rattle.std.specs.Prelude.{◌≡◌, ◌⊎◌, ℕ, ◌≤◌, ◌<◌, nat_lt, Bool, true, false, not, ◌&&◌, ◌||◌, is_some, Option, Some, None, List, [], filter, length, replicate, slice_get, slice_set, IsTrue, IsSome}
+use Rattle.std.specs.Prelude.{◌≡◌, ◌⊎◌, ℕ, ◌≤◌, ◌<◌, nat_lt, Bool, true, false, not, ◌&&◌, ◌||◌, is_some, Option, Some, None, Result, Ok, Err, List, [], filter, length, replicate, slice_get, slice_index_or, slice_set, IsTrue, IsSome}
 use Rattle.lis_limits.specs.declared.TheConstants.{MAX_PROPS}
 use Rattle.lis_slots.specs.Slots.{slot}
 use Rattle.lis_blockmap.specs.Bitmap.{is_taken}
-use Rattle.lis_dict.specs.Dict.{Dict, IsDict, number_of, word_of, with_entry, words as words_of}
+use Rattle.lis_dict.specs.Dict.{Dict, IsDict, number_of, word_of, words as words_of}
 use Rattle.lis_ext.specs.Ext.{empty_ext}
 use Rattle.lis_taxonomy.specs.Taxonomy.{Taxonomy, has_edge, with_edge, empty_taxonomy, Entails as Leads}
 use Rattle.lis_fields.specs.declared.slots.PropSlot.{PropSlot}
@@ -14,43 +14,62 @@ use Rattle.lis_fields.specs.Layouts.{prop_bytes, is_prop, axiom_bytes}
 use Rattle.lis_words.specs.Words.{is_plain_word, is_valued, head_bytes, has_word}
 use Rattle.lis_model.specs.declared.limits.Limits.{Limits}
 use Rattle.lis_model.specs.State.{Acyclic, is_nameable}
-use Rattle.lis_kept.specs.Metadata.{Metadata, metadata_of, property_at, axiom_at}
+use Rattle.lis_kept.specs.Metadata.{Metadata, metadata_of, property_by, property_at, axiom_at}
 use Rattle.lis_kept.specs.Areas.{property_slots, axiom_slots}
 use Rattle.lis_kept.specs.Edges.{head_number}
 use Rattle.lis_kept.specs.Telling.{bit_of, axioms_of, is_head_by}
 use Rattle.lis_kept.specs.Links.{HasEdges}
 use Rattle.lis_kept.specs.TestEdges.{is_next_test}
 use Rattle.lis_open.specs.declared.words.Words.{Words}
+use Rattle.lis_open.specs.declared.words.WordSlots.{WordSlots}
+use Rattle.lis_open.specs.declared.mounting.OpenFault.{OpenFault}
+use Rattle.lis_open.specs.Checks.{IsProperty}
+use Rattle.lis_open.specs.Reading.{KindFails, Passes}
 use Rattle.lis_open.specs.declared.axioms.Axioms.{Axioms}
 
 -- ---- words
-unfoldable pub no_words : Limits → Words
-no_words limits = record { dict = record { props = limits.props; entries = [] }; declared = replicate limits.props false }
+-- no slot was read
+unfoldable pub no_words : Limits → WordSlots
+no_words limits = record { unsorted = replicate limits.props None; declared = replicate limits.props false }
 
--- the words, with one more of that number
-abbrev pub with_word : Words → ℕ → List ℕ → Bool → Words
-with_word words number word is_declared = record {
-  dict = with_entry words.dict word number;
-  declared = slice_set words.declared number is_declared;
+-- the word of a slot that was read
+abbrev pub slot_word : WordSlots → ℕ → Option (List ℕ)
+slot_word slots n = slice_index_or slots.unsorted n None
+
+-- what was read of a slot
+abbrev pub property_read : WordSlots → ℕ → PropSlot
+property_read slots n = property_by (slot_word slots n) (is_taken slots.declared n)
+
+-- the slots, with what one more has
+abbrev pub with_word : WordSlots → ℕ → List ℕ → Bool → WordSlots
+with_word slots number word is_declared = record {
+  unsorted = slice_set slots.unsorted number (Some word);
+  declared = slice_set slots.declared number is_declared;
 }
 
--- no word is the word of the slot
-abbrev pub is_new_word : Words → List ℕ → Bool
-is_new_word words word = not (is_some (number_of words.dict word))
+abbrev pub with_property : WordSlots → ℕ → PropSlot → WordSlots
+with_property slots number FreeProp = slots
+with_property slots number (Known word) = with_word slots number word false
+with_property slots number (Declared word) = with_word slots number word true
 
--- what was read of a property slot may be taken
-abbrev pub may_take_property : Words → Option PropSlot → Bool
-may_take_property words None = false
-may_take_property words (Some FreeProp) = true
-may_take_property words (Some (Known word)) = is_new_word words word
-may_take_property words (Some (Declared word)) = is_new_word words word
+-- The slots below the end were read, and no other ones. A word may be there twice.
+pub record AreFirstSlots (limits : Limits) (slots : WordSlots) (end : ℕ) : Type 0 where
+  pub within : end ≤ limits.props
+  pub long : length slots.unsorted ≡ limits.props
+  pub flags : length slots.declared ≡ limits.props
+  pub rest : (n : ℕ) → end ≤ n → slot_word slots n ≡ None
+  pub forms : (n : ℕ) → IsTrue (is_prop (property_read slots n))
+  -- what is declared has a word
+  pub flagged : (n : ℕ) → is_taken slots.declared n ≡ true → IsSome (slot_word slots n)
 
--- and the words with it
-abbrev pub with_property : Words → ℕ → Option PropSlot → Words
-with_property words number None = words
-with_property words number (Some FreeProp) = words
-with_property words number (Some (Known word)) = with_word words number word false
-with_property words number (Some (Declared word)) = with_word words number word true
+-- the slots below the end are spelled as they were read
+abbrev pub SlotsAreSpelled : Limits → (ℕ → List ℕ) → WordSlots → ℕ → Type 0
+SlotsAreSpelled limits at slots end = (n : ℕ) → n < end → slot (property_slots limits) at n ≡ prop_bytes (property_read slots n)
+
+-- and the one at the end, if there is one, is in no layout
+pub record SlotsEnded (limits : Limits) (at : ℕ → List ℕ) (slots : WordSlots) (end : ℕ) : Type 0 where
+  pub spelled : SlotsAreSpelled limits at slots end
+  pub malformed : end < limits.props → (property : PropSlot) → IsProperty limits at end property → ⊥
 
 -- what holds of words however they were read
 pub record AreWords (words : Words) : Type 0 where
@@ -72,6 +91,11 @@ pub record AreFirstWords (limits : Limits) (words : Words) (end : ℕ) : Type 0 
 abbrev pub WordsAreSpelled : Limits → (ℕ → List ℕ) → Words → ℕ → Type 0
 WordsAreSpelled limits at words end =
     (n : ℕ) → n < end → slot (property_slots limits) at n ≡ prop_bytes (property_at words.dict words.declared n)
+
+-- how reading the property slots ended
+abbrev pub WordsEnded : Limits → (ℕ → List ℕ) → Result Words OpenFault → Type 0
+WordsEnded limits at (Ok words) = Passes limits at 2 (WordsAreSpelled limits at words limits.props)
+WordsEnded limits at (Err fault) = KindFails limits at 2 fault
 
 -- the declared words, in byte order
 abbrev pub declared_words : Words → List (List ℕ)

@@ -8,7 +8,7 @@ ghost use Rattle.lis_open.specs.ReadWords.{no_words, AreNoAxioms};
 
 use crate::axioms::{Axioms, no_axioms};
 use crate::files::{Files, no_files};
-use crate::words::{Words, no_words};
+use crate::words::{WordSlots, no_words};
 use lis_bits::{Flags, Rows};
 use lis_content::Buffer;
 use lis_kept::data_start;
@@ -19,7 +19,21 @@ use std::alloc::{AllocError, Global};
 /// The memory into which opening reads.
 #[derive(Drop)]
 pub struct OpeningMemory {
-    pub words: Words,
+    pub words: WordSlots,
+    pub later: LaterMemory,
+}
+
+impl OpeningMemory {
+    /// Frees its memory, as `LaterMemory::close` does.
+    pub fn close(self) {
+        self.later.close();
+        self.words.close();
+    }
+}
+
+/// The memory of all that is read after the words.
+#[derive(Drop)]
+pub struct LaterMemory {
     pub axioms: Axioms,
     pub files: Files,
     /// The check of the words uses it.
@@ -32,19 +46,18 @@ pub struct OpeningMemory {
     pub marks: Flags,
 }
 
-impl OpeningMemory {
+impl LaterMemory {
     /// Frees its memory. The fields with most parts are dropped by separate calls, since one drop of all takes long to check.
     pub fn close(self) {
         self.files.close();
         self.axioms.close();
-        self.words.close();
     }
 }
 
 // The memory into which the slots are read.
 #[derive(Drop)]
 struct SlotMemory {
-    words: Words,
+    words: WordSlots,
     axioms: Axioms,
     files: Files,
 }
@@ -76,11 +89,13 @@ pub fn take_memory(alloc: Global, limits: &Limits) -> Result<OpeningMemory, Allo
     let slots = take_slot_memory(alloc, limits)?;
     Ok(OpeningMemory {
         words: slots.words,
-        axioms: slots.axioms,
-        files: slots.files,
-        row,
-        search,
-        bytes,
-        marks,
+        later: LaterMemory {
+            axioms: slots.axioms,
+            files: slots.files,
+            row,
+            search,
+            bytes,
+            marks,
+        },
     })
 }

@@ -5,53 +5,49 @@ ghost use Rattle.lis_bits.specs.Rows.{HasShape};
 ghost use Rattle.lis_journal.specs.Images.{Fits};
 ghost use Rattle.lis_fields.specs.Layouts.{SpellsSuper};
 ghost use Rattle.lis_store.specs.Stored.{IsSound};
-ghost use Rattle.lis_open.specs.Reading.{Recalls, ReadsPart, IsReadable};
-ghost use Rattle.lis_open.specs.ReadAll.{metadata_in, is_stray, IsEmptyMemory, AreSlotsRead, ArePassed, SlotsEnded, AreRead, PartsEnded, StoreEnded};
+ghost use Rattle.lis_open.specs.Reading.{Recalls, Passes, ReadsPart, IsReadable};
+ghost use Rattle.lis_open.specs.ReadWords.{no_words, AreFirstWords, WordsAreSpelled};
+ghost use Rattle.lis_open.specs.ReadAll.{metadata_in, is_stray, IsEmptyMemory, IsEmptyLater, AreSlotsRead, ArePassed, SlotsEnded, AreRead, PartsEnded, AllEnded, StoreEnded};
 
 use crate::axioms::read_axioms;
 use crate::blocks::LastBlock;
 use crate::checks::{check_bitmap, check_rows, check_words};
 use crate::files::{Known, read_files};
-use crate::memory::OpeningMemory;
+use crate::memory::{LaterMemory, OpeningMemory};
 use crate::mounting::OpenFault;
-use crate::words::read_words;
+use crate::words::{WordSlots, Words, read_words};
 use lis_journal::Journal;
 use lis_kept::{Fields, Metadata};
 use lis_model::limits::Limits;
 use lis_ports::Disk;
 use lis_store::{Built, Store};
 
-// Reads words, axioms and files, and checks each slot as it is read.
+// Reads axioms and files, and checks each slot as it is read.
 fn read_slots<D: Disk>(
     last: &mut LastBlock,
     disk: &mut D,
     journal: &Journal,
     limits: &Limits,
-    memory: &mut OpeningMemory,
+    words: &Words,
+    memory: &mut LaterMemory,
 ) -> Result<(), OpenFault>
     requires readable { IsReadable limits.now journal.now (D.meaning disk.old) }
-    requires memory { IsEmptyMemory limits.now memory.old }
+    requires words { AreFirstWords limits.now words.now limits.now.props }
+    requires memory { IsEmptyLater limits.now memory.old }
     ensures same { memory.new.row ≡ memory.old.row }
     ensures marks { memory.new.marks ≡ memory.old.marks }
     ensures disk { ReadsPart (D.meaning disk.old) (D.meaning disk.new) result }
-    ensures read { OnOk result (AreSlotsRead limits.now memory.new.words memory.new.axioms memory.new.files) }
+    ensures read { OnOk result (AreSlotsRead limits.now words.now memory.new.axioms memory.new.files) }
     ensures recalls { OnOk result ((kept : ℕ → List ℕ) → Fits journal.now (D.meaning disk.old) kept → Recalls last.old kept → Recalls last.new kept) }
     ensures ended { (kept : ℕ → List ℕ) → Fits journal.now (D.meaning disk.old) kept → Recalls last.old kept
-        → SlotsEnded limits.now kept memory.new.words memory.new.axioms memory.new.files result }
+        → Passes limits.now kept 2 (WordsAreSpelled limits.now kept words.now limits.now.props)
+        → SlotsEnded limits.now kept words.now memory.new.axioms memory.new.files result }
 {
-    read_words(last, disk, journal, limits, &mut memory.words)?;
-    read_axioms(
-        last,
-        disk,
-        journal,
-        limits,
-        &memory.words,
-        &mut memory.axioms,
-    )?;
+    read_axioms(last, disk, journal, limits, words, &mut memory.axioms)?;
     let known = Known {
         journal,
         limits,
-        words: &memory.words,
+        words,
         axioms: &memory.axioms,
     };
     read_files(
@@ -71,22 +67,23 @@ fn check_parts<D: Disk>(
     disk: &mut D,
     journal: &Journal,
     limits: &Limits,
-    memory: &mut OpeningMemory,
+    words: &Words,
+    memory: &mut LaterMemory,
 ) -> Result<(), OpenFault>
     requires readable { IsReadable limits.now journal.now (D.meaning disk.old) }
-    requires read { AreSlotsRead limits.now memory.old.words memory.old.axioms memory.old.files }
+    requires read { AreSlotsRead limits.now words.now memory.old.axioms memory.old.files }
     requires shape { HasShape memory.old.row 1 limits.now.props }
     ensures same { memory.new ≡ record memory.old { row = memory.new.row } }
     ensures disk { ReadsPart (D.meaning disk.old) (D.meaning disk.new) result }
     ensures used { OnOk result ((marks : List Bool) (n : ℕ)
-        → is_stray (metadata_in limits.now memory.old.words memory.old.axioms memory.old.files marks) n ≡ false) }
+        → is_stray (metadata_in limits.now words.now memory.old.axioms memory.old.files marks) n ≡ false) }
     ensures ended { (kept : ℕ → List ℕ) → Fits journal.now (D.meaning disk.old) kept → Recalls last.old kept
-        → ArePassed limits.now kept memory.old.words memory.old.axioms memory.old.files
-        → PartsEnded limits.now kept memory.old.words memory.old.axioms memory.old.files result }
+        → ArePassed limits.now kept words.now memory.old.axioms memory.old.files
+        → PartsEnded limits.now kept words.now memory.old.axioms memory.old.files result }
 {
     check_words(
         limits,
-        &memory.words,
+        words,
         &memory.axioms,
         &memory.files,
         &mut memory.row,
@@ -95,24 +92,55 @@ fn check_parts<D: Disk>(
     check_rows(last, disk, journal, limits, &memory.files.ext)
 }
 
+// Reads axioms and files, and checks what must hold after them.
+fn read_later<D: Disk>(
+    last: &mut LastBlock,
+    disk: &mut D,
+    journal: &Journal,
+    limits: &Limits,
+    words: &Words,
+    memory: &mut LaterMemory,
+) -> Result<(), OpenFault>
+    requires readable { IsReadable limits.now journal.now (D.meaning disk.old) }
+    requires words { AreFirstWords limits.now words.now limits.now.props }
+    requires memory { IsEmptyLater limits.now memory.old }
+    ensures marks { memory.new.marks ≡ memory.old.marks }
+    ensures disk { ReadsPart (D.meaning disk.old) (D.meaning disk.new) result }
+    ensures read { OnOk result ((marks : List Bool) → AreRead limits.now words.now memory.new.axioms memory.new.files marks) }
+    ensures ended { (kept : ℕ → List ℕ) → Fits journal.now (D.meaning disk.old) kept → Recalls last.old kept
+        → Passes limits.now kept 2 (WordsAreSpelled limits.now kept words.now limits.now.props)
+        → PartsEnded limits.now kept words.now memory.new.axioms memory.new.files result }
+{
+    read_slots(last, disk, journal, limits, words, memory)?;
+    check_parts(last, disk, journal, limits, words, memory)
+}
+
 // Reads and checks all parts in their order.
 fn read_parts<D: Disk>(
     disk: &mut D,
     journal: &Journal,
     limits: &Limits,
-    memory: &mut OpeningMemory,
-) -> Result<(), OpenFault>
+    slots: WordSlots,
+    memory: &mut LaterMemory,
+) -> Result<Words, OpenFault>
     requires readable { IsReadable limits.now journal.now (D.meaning disk.old) }
-    requires memory { IsEmptyMemory limits.now memory.old }
+    requires slots { slots ≡ no_words limits.now }
+    requires memory { IsEmptyLater limits.now memory.old }
     ensures marks { memory.new.marks ≡ memory.old.marks }
     ensures disk { ReadsPart (D.meaning disk.old) (D.meaning disk.new) result }
-    ensures read { OnOk result ((marks : List Bool) → AreRead limits.now memory.new.words memory.new.axioms memory.new.files marks) }
+    ensures read { IfOk result (λ words. (marks : List Bool) → AreRead limits.now words memory.new.axioms memory.new.files marks) }
     ensures ended { (kept : ℕ → List ℕ) → Fits journal.now (D.meaning disk.old) kept
-        → PartsEnded limits.now kept memory.new.words memory.new.axioms memory.new.files result }
+        → AllEnded limits.now kept memory.new.axioms memory.new.files result }
 {
     let mut last = LastBlock::new();
-    read_slots(&mut last, disk, journal, limits, memory)?;
-    check_parts(&mut last, disk, journal, limits, memory)
+    let words = read_words(&mut last, disk, journal, limits, slots)?;
+    match read_later(&mut last, disk, journal, limits, &words, memory) {
+        Ok(()) => Ok(words),
+        Err(fault) => {
+            words.close();
+            Err(fault)
+        }
+    }
 }
 
 /// Reads all that a store keeps in memory, and checks that the image represents a state. It allocates no memory.
@@ -132,26 +160,29 @@ pub fn read_store<D: Disk>(
     ensures ended { (kept : ℕ → List ℕ) → Fits journal (D.meaning disk.old) kept
         → SpellsSuper limits (kept 0) → StoreEnded limits kept result }
 {
-    let mut memory = memory;
-    // Dropped by a call, since a function's end is checked with all that is dropped there.
-    if let Err(fault) = read_parts(disk, &journal, &limits, &mut memory) {
-        memory.close();
-        return Err(fault);
-    }
+    let OpeningMemory { words, mut later } = memory;
+    let words = match read_parts(disk, &journal, &limits, words, &mut later) {
+        Ok(words) => words,
+        // Dropped by a call, since a function's end is checked with all that is dropped there.
+        Err(fault) => {
+            later.close();
+            return Err(fault);
+        }
+    };
     let metadata = Metadata::join(Fields {
         limits,
-        dict: memory.words.dict,
-        declared: memory.words.declared,
-        axioms: memory.axioms.slots,
-        taxonomy: memory.axioms.taxonomy,
-        catalog: memory.files.catalog,
-        map: memory.files.map,
-        ext: memory.files.ext,
-        marks: memory.marks,
+        dict: words.dict,
+        declared: words.declared,
+        axioms: later.axioms.slots,
+        taxonomy: later.axioms.taxonomy,
+        catalog: later.files.catalog,
+        map: later.files.map,
+        ext: later.files.ext,
+        marks: later.marks,
     });
     Ok(Store::join(Built {
         metadata,
         journal,
-        bytes: memory.bytes,
+        bytes: later.bytes,
     }))
 }

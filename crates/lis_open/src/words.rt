@@ -1,27 +1,24 @@
 //! The words of an image: its property slots.
 
-ghost use Rattle.std.specs.Prelude.{◌≡◌, ◌<◌, ℕ, List, None, IsTrue, IfOk, IfSome, OnOk};
-ghost use Rattle.std.specs.Bool.{OnTrue, OnFalse};
+ghost use Rattle.std.specs.Prelude.{◌≡◌, ◌<◌, ℕ, List, None, length, slice_index_or, IsTrue, IfOk, IfSome};
 ghost use Rattle.lis_ports.specs.Calls.{ReadsDisk};
 ghost use Rattle.lis_journal.specs.Images.{Fits};
-ghost use Rattle.lis_dict.specs.Dict.{word_of};
 ghost use Rattle.lis_fields.specs.Layouts.{prop_bytes, is_prop};
 ghost use Rattle.lis_model.specs.Ranges.{are_in_range};
 ghost use Rattle.lis_kept.specs.Areas.{property_slots};
-ghost use Rattle.lis_open.specs.Reading.{Recalls, IsReadAs, Ends, ReadsPart, IsReadable};
-ghost use Rattle.lis_open.specs.ReadWords.{no_words, with_word, is_new_word, may_take_property, with_property, AreWords, AreFirstWords, WordsAreSpelled};
+ghost use Rattle.lis_open.specs.Reading.{Recalls, IsReadAs, ReadsPart, IsReadable};
+ghost use Rattle.lis_open.specs.ReadWords.{no_words, with_property, AreFirstSlots, SlotsEnded, AreFirstWords, WordsEnded};
 
 use crate::blocks::LastBlock;
 use crate::mounting::OpenFault;
 use lis_bits::Flags;
-use lis_dict::Dict;
+use lis_dict::{Dict, Unsorted};
 use lis_fields::{PropSlot, read_prop};
 use lis_journal::Journal;
 use lis_limits::{PROP_LEN, PROPERTIES_START};
 use lis_model::limits::Limits;
 use lis_model::spot::Spot;
 use lis_ports::{Disk, Failed};
-use lis_words::Word;
 use std::alloc::{AllocError, Global};
 
 /// The words of an image, by their numbers.
@@ -37,14 +34,27 @@ impl Words {
     pub fn close(self) {}
 }
 
-/// No words yet.
+/// What is read of the property slots, by their numbers: the words, not sorted yet.
+#[derive(Drop)]
+pub struct WordSlots {
+    pub unsorted: Unsorted,
+    /// By number: the word that has it is declared.
+    pub declared: Flags,
+}
+
+impl WordSlots {
+    /// Frees their memory, as `Words::close` does.
+    pub fn close(self) {}
+}
+
+/// No slot is read yet.
 #[tactic(auto, unfolding(crate::specs::ReadWords::no_words))]
-pub fn no_words(alloc: Global, limits: &Limits) -> Result<Words, AllocError>
+pub fn no_words(alloc: Global, limits: &Limits) -> Result<WordSlots, AllocError>
     requires { IsTrue (are_in_range limits.now) }
-    ensures { IfOk result (λ words. words ≡ no_words limits.now) }
+    ensures { IfOk result (λ slots. slots ≡ no_words limits.now) }
 {
-    Ok(Words {
-        dict: Dict::new(alloc, limits.props)?,
+    Ok(WordSlots {
+        unsorted: Unsorted::new(alloc, limits.props)?,
         declared: Flags::new(alloc, limits.props)?,
     })
 }
@@ -70,61 +80,70 @@ fn read_property<D: Disk>(
     Ok(read_prop(&bytes))
 }
 
-// Takes a word if it is new, and returns whether it is.
-fn take_word(words: &mut Words, number: u16, word: &Word, is_declared: bool) -> bool
-    requires are { AreWords words.old }
-    requires below { number < words.old.dict.props }
-    requires free { word_of words.old.dict number ≡ None }
-    ensures answer { result ≡ is_new_word words.old word.now }
-    ensures taken { OnTrue result (words.new ≡ with_word words.old number word.now is_declared) }
-    ensures refused { OnFalse result (words.new ≡ words.old) }
+// Takes what a slot says.
+fn take_property(slots: &mut WordSlots, number: u16, property: PropSlot)
+    requires below { number < length slots.old.unsorted }
+    requires flags { number < length slots.old.declared }
+    requires free { slice_index_or slots.old.unsorted number None ≡ None }
+    ensures { slots.new ≡ with_property slots.old number property }
 {
-    if words.dict.id_of(word).is_some() {
-        return false;
-    }
-    words.dict.place(number, word);
-    words.declared.put(u32::from(number), is_declared);
-    true
+    let (word, is_declared) = match property {
+        PropSlot::Free => return,
+        PropSlot::Known(word) => (word, false),
+        PropSlot::Declared(word) => (word, true),
+    };
+    slots.unsorted.put(number, &word);
+    slots.declared.put(u32::from(number), is_declared);
 }
 
-// Takes the word of a slot, and returns whether it does. It does if the slot is in its layout and no earlier slot has the word.
-fn take_property(words: &mut Words, number: u16, found: Option<PropSlot>) -> bool
-    requires are { AreWords words.old }
-    requires below { number < words.old.dict.props }
-    requires free { word_of words.old.dict number ≡ None }
-    ensures answer { result ≡ may_take_property words.old found }
-    ensures taken { OnTrue result (words.new ≡ with_property words.old number found) }
-    ensures refused { OnFalse result (words.new ≡ words.old) }
+// Reads the property slots up to the first one that is in no layout, and returns its number, or that of all slots.
+fn read_properties<D: Disk>(
+    last: &mut LastBlock,
+    disk: &mut D,
+    journal: &Journal,
+    limits: &Limits,
+    slots: &mut WordSlots,
+) -> Result<u32, Failed>
+    requires readable { IsReadable limits.now journal.now (D.meaning disk.old) }
+    requires none { slots.old ≡ no_words limits.now }
+    ensures disk { ReadsDisk (D.meaning disk.old) (D.meaning disk.new) result }
+    ensures read { IfOk result (λ end. AreFirstSlots limits.now slots.new end) }
+    ensures recalls { (kept : ℕ → List ℕ) → Fits journal.now (D.meaning disk.old) kept → Recalls last.old kept → Recalls last.new kept }
+    ensures ended { (kept : ℕ → List ℕ) → Fits journal.now (D.meaning disk.old) kept → Recalls last.old kept
+        → IfOk result (λ end. SlotsEnded limits.now kept slots.new end) }
 {
-    match found {
-        None => false,
-        Some(PropSlot::Free) => true,
-        Some(PropSlot::Known(word)) => take_word(words, number, &word, false),
-        Some(PropSlot::Declared(word)) => take_word(words, number, &word, true),
+    for number in 0..limits.props {
+        let Some(property) = read_property(last, disk, journal, limits, number)? else {
+            return Ok(number);
+        };
+        take_property(slots, number as u16, property);
     }
+    Ok(limits.props)
 }
 
-/// Reads the property slots, in the order of their numbers.
+/// Reads the property slots, and sorts their words once. The spot is that of the first slot that is in no layout or has a word of an
+/// earlier one. No slot is read past one that is in no layout, so a word that is there twice was read before it.
 pub fn read_words<D: Disk>(
     last: &mut LastBlock,
     disk: &mut D,
     journal: &Journal,
     limits: &Limits,
-    words: &mut Words,
-) -> Result<(), OpenFault>
+    slots: WordSlots,
+) -> Result<Words, OpenFault>
     requires readable { IsReadable limits.now journal.now (D.meaning disk.old) }
-    requires none { words.old ≡ no_words limits.now }
+    requires none { slots ≡ no_words limits.now }
     ensures disk { ReadsPart (D.meaning disk.old) (D.meaning disk.new) result }
-    ensures read { OnOk result (AreFirstWords limits.now words.new limits.now.props) }
+    ensures read { IfOk result (λ words. AreFirstWords limits.now words limits.now.props) }
     ensures recalls { (kept : ℕ → List ℕ) → Fits journal.now (D.meaning disk.old) kept → Recalls last.old kept → Recalls last.new kept }
-    ensures ended { (kept : ℕ → List ℕ) → Fits journal.now (D.meaning disk.old) kept → Recalls last.old kept
-        → Ends limits.now kept 2 (WordsAreSpelled limits.now kept words.new limits.now.props) result }
+    ensures ended { (kept : ℕ → List ℕ) → Fits journal.now (D.meaning disk.old) kept → Recalls last.old kept → WordsEnded limits.now kept result }
 {
-    for number in 0..limits.props {
-        let found = read_property(last, disk, journal, limits, number)?;
-        if !take_property(words, number as u16, found) {
-            return Err(OpenFault::Damaged(Spot::Property(number)));
-        }
-    }
-    Ok(())
+    let mut slots = slots;
+    let end = read_properties(last, disk, journal, limits, &mut slots)?;
+    let WordSlots { unsorted, declared } = slots;
+    let spot = match unsorted.sort() {
+        Ok(dict) if end == limits.props => return Ok(Words { dict, declared }),
+        Ok(_) => end,
+        Err(again) => again,
+    };
+    Err(OpenFault::Damaged(Spot::Property(spot)))
 }

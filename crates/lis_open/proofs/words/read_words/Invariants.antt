@@ -1,5 +1,0 @@
-use Rattle.lis_open.proofs.WordsRead.{WordsTurn}
-use Rattle.lis_open.proofs.words.read_words.Given as goal
-
-abbrev pub invariant-loop-number : goal.invariant-loop-number
-invariant-loop-number g l = WordsTurn l.journal l.limits (g.D.Disk.meaning l.initial.disk) (g.D.Disk.meaning l.disk) l.initial.last l.last l.words l.number
