@@ -169,7 +169,7 @@ module _ (limits : Limits) (at : ℕ → List ℕ) (slots : WordSlots) (end : �
     fails = again_fails n least.again;
     is = refl;
     none_before = none_before limits at 2 n (λ m lt fails.
-      least.first m lt (fails_again m (omega (arith, lt, number_read n least.again.1 least.again.4)) fails));
+        least.first m lt (fails_again m (omega (arith, lt, number_read n least.again.1 least.again.4)) fails));
   }
 
   module _ (d : Dict) (kept : IsDict d) (has : HasWords d slots.unsorted) where

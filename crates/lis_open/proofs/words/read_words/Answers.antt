@@ -23,8 +23,8 @@ returns-clause-ended g c = λ kept fits recalled.
     let ended = c.in_ok-end.ensures.ended kept fits recalled in
     elim c.match-sort.branch [
       | in-Ok-2 w ↦
-        let below : end < limits.props = omega (arith, read.within, w.if-end-limits.false) in
-        let dict : IsDict w.in-Ok.dict = search rules in
-        subst (λ (n : ℕ). IsFirst limits kept 2 (Property n)) (sym w.spot-is) (malformed_fails limits kept slots end read ended.spelled w.in-Ok.dict dict w.in-Ok.ensures.sorted below (ended.malformed below))
+          let below : end < limits.props = omega (arith, read.within, w.if-end-limits.false) in
+          let dict : IsDict w.in-Ok.dict = search rules in
+          subst (λ (n : ℕ). IsFirst limits kept 2 (Property n)) (sym w.spot-is) (malformed_fails limits kept slots end read ended.spelled w.in-Ok.dict dict w.in-Ok.ensures.sorted below (ended.malformed below))
       | in-Err w ↦ subst (λ (n : ℕ). IsFirst limits kept 2 (Property n)) (sym w.spot-is) (first_again limits kept slots end read ended.spelled w.in-Err.again w.in-Err.ensures.again)
     ]
