@@ -7,7 +7,6 @@ use Rattle.lis_kept.specs.Sound.{IsSoundAxiom, FreeSlotsAreEmpty}
 use Rattle.lis_kept.specs.Links.{AreHeld, is_linked}
 use Rattle.lis_kept.specs.Telling.{AreUsed}
 use Rattle.lis_kept.specs.Forgetting.{KeepsInUse}
-use Rattle.lis_store.specs.declared.saving.TheConstants.{MOST_HELD}
 use Rattle.lis_store.specs.Drafts.{draft_of}
 use Rattle.lis_store.proofs.Admitted.{derived_own}
 use Rattle.lis_store.specs.Stored.{AreClosed, TestsAreMet}
@@ -212,7 +211,7 @@ module _ (limits : Limits) (words : Words) (axioms : Axioms) (files : Files) (ma
   -- what was read is what a store may keep
   pub store_sound : (journal : Held) → shape_of journal ≡ image_shape limits → journal.is_broken ≡ false → journal.staged ≡ [] → journal.placed ≡ [] → IsSound (record { metadata = metadata_in limits words axioms files marks; journal = journal; is_broken = false })
   store_sound journal image unbroken staged placed =
-      let few : length journal.staged ≤ MOST_HELD = omega (arith, ap length staged) in
+      let few : length journal.staged ≤ 44 = omega (arith, ap length staged) in
       let whole : IsTrue (are_whole journal.staged) = ap are_whole staged in
       assumption (metadata_are, metadata_tests, metadata_free limits words axioms files marks read range clean, metadata_closed limits words axioms files marks read range clean, metadata_in_use limits words axioms files marks read range clean, few, whole)
 
