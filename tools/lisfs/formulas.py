@@ -223,11 +223,8 @@ def formula(text: bytes) -> Formula:
     return Reader(text).whole()
 
 
-class Instead(NamedTuple):
-    """A formula instead of one with words that no file has, and these words."""
-
-    formula: bytes
-    unused: tuple[bytes, ...]
+# A formula instead of one with words that no file has, and these words. Written so that its fields have types, and not texts, at the start.
+Instead = NamedTuple("Instead", [("formula", bytes), ("unused", tuple[bytes, ...])])
 
 
 def without(text: bytes, unused: Sequence[bytes]) -> Instead | None:

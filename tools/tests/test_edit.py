@@ -490,16 +490,14 @@ def before(call):
         return call(*given, **more)
     return called
 
-def behind(call):
-    def called(*given, **more):
-        done = call(*given, **more)
+class Started(subprocess.Popen):
+    def __init__(self, *given, **more):
+        super().__init__(*given, **more)
         if "edit-" in str(given[0]):
             come()
-        return done
-    return called
 
 if moment == "started":
-    subprocess.Popen = behind(subprocess.Popen)
+    subprocess.Popen = Started
 elif moment == "looked":
     os.path.isfile = before(os.path.isfile)
 else:

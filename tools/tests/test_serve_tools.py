@@ -398,7 +398,7 @@ def test_a_change_between_look_and_write(top, monkeypatch, capsys):
     out = capsys.readouterr().out.splitlines()
     assert "sync: not taken: top/a.txt: another client has changed it meanwhile" in out
     assert "sync: not taken: top/b.txt: another client has changed it meanwhile" in out
-    assert "sync: gone: c.txt" in out
+    assert "sync: gone: c.txt: top/c.txt" in out
     assert asked(b"cat a.txt", b"cat mine.txt") == b"b 7\nby hand\nok\nb 16\nb.txt as it was\n\nok\n"
     status, out, _ = sync("--as", "t", "image", "top")
     assert (status, out[1]) == (1, "conflict: a.txt: top/a.txt: changed in the folder and in the image")

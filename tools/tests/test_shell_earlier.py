@@ -139,7 +139,7 @@ def test_a_served_image(rooms):
     """Of one nothing is kept or undone, and what was kept before is found again."""
     make(script=TAKEN)
     assert shell(b"tag notes live\n")[0] == 0
-    with Served("image"):
+    with Served("image", None):
         assert shell(b"undo\ncreate other\nrm other\n") == (1, b"", f"shell: image is served: a client of image.socket\n{NOTHING}")
     assert shell(b"undo\n") == (0, b"undone: tag notes live (of an earlier shell)\n", "")
 

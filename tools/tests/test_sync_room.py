@@ -64,7 +64,7 @@ def test_older_files_that_somebody_changed():
         program.write(b"edited", b"mine\n")
         program.rename(b"name", b"other")
     dated("top/both", 1, "the folder's\n")
-    assert sync("--as", "t", "--newest", "1", "--dry-run", "image", "top")[1][0] == "removed as older: plain", "a dry run tells it"
+    assert sync("--as", "t", "--newest", "1", "--dry-run", "image", "top")[1][0] == "removed as older: plain: top/plain", "a dry run tells it"
     assert sync("--as", "t", "--newest", "1", "image", "top") == (
         0, ["sync:t: 1 changed, 1 removed as older, 3 as they were", "1 older file left out by --since or --newest",
             "4 older files changed in the image: not removed", "1 file changed in the image: left as the image has it"], ""), "what is told"
