@@ -53,9 +53,11 @@ class Entry:
 
     def read_from(self, content: bytes) -> bytes:
         """Notes what its bytes give. Their digest."""
-        self.digest = digest = hashlib.sha256(content).digest()
-        name = b"x.eml" if self.is_mail else os.fsencode(self.found.parts[-1])
-        self.derived = len(derived.derived_words(name, content)) if derived.has_many(name) else 0
+        digest = hashlib.sha256(content).digest()
+        # Of a mail the words were counted when its header was read.
+        if digest != self.digest:
+            name = b"x.eml" if self.is_mail else os.fsencode(self.found.parts[-1])
+            self.digest, self.derived = digest, len(derived.derived_words(name, content)) if derived.has_many(name) else 0
         return digest
 
     @property
