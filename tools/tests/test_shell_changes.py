@@ -1,8 +1,6 @@
 """`tools/shell`: words of several files, `undo`, and what `mv` asks."""
-import os
 import random
 import shutil
-import signal
 
 import pytest
 
@@ -13,7 +11,7 @@ from lisfs.shell.undoing import UNDOABLE, place_after, tags_of
 from support.images import bytes_of, dump, make, written
 from support.shell_tables import TAKEN, library
 from support.shells import shell, within
-from support.waiting import children, rest, stop
+from support.waiting import children, rest
 from test_shell import random_lines
 
 USAGE = "usage: {0} FILE.. WORD.., or {0} WORD in FORMULA"
@@ -321,12 +319,7 @@ def test_many_files_are_stopped(at_terminal):
         program = children(at.process)[0]
         at.types(b"tag live in !music\n").sees(b"[y/N] ")
         rest(at.process)
-        stop(program)
-        at.types(b"y\n").sees(b"\r\n")
-        rest(at.process)
-        at.types(b"\x03").sees(b"^C")
-        rest(at.process)
-        os.kill(program, signal.SIGCONT)
+        at.interrupts(b"y\n", program)
         assert at.sees(b" of 901 files changed\r\n") is not None, ("how many", at.shown[-300:])
         at.sees(b"/> ")
         at.types(b"undo\n")

@@ -123,12 +123,7 @@ def test_a_stop_half_way(at_terminal, program):
         at.sees(b"/> ")
         at.types(b"find n000\n").sees(b"/> ")
         server = children(at.process)[0]
-        stop(server)
-        at.types(b"get in live out\n").sees(b"\r\n")
-        rest(at.process)
-        at.types(b"\x03").sees(b"^C")
-        rest(at.process)
-        os.kill(server, signal.SIGCONT)
+        at.interrupts(b"get in live out\n", server)
         assert at.sees(b"/> ") is not None, at.shown[-300:]
         assert len(os.listdir("out")) < 901 and b"out: 901 files" not in at.shown
         stop(server)

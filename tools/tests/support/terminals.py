@@ -10,7 +10,7 @@ import subprocess
 import termios
 from typing import Self
 
-from support.waiting import LONG, until
+from support.waiting import LONG, rest, stop, until
 
 # What would make a terminal another one than that of the next machine.
 OTHERS = ("NO_COLOR", "INPUTRC", "COLUMNS", "LINES", "TMUX", "PAGER", "LESS")
@@ -80,6 +80,15 @@ class Terminal:
             pass
         until(self._has_ended)
         return self.status
+
+    def interrupts(self, line: bytes, waited_for: int) -> None:
+        """Types a line while a process is stopped for which the program then waits, and then Ctrl-C. The process goes on."""
+        stop(waited_for)
+        self.types(line).sees(b"\r\n")
+        rest(self.process)
+        self.types(b"\x03").sees(b"^C")
+        rest(self.process)
+        os.kill(waited_for, signal.SIGCONT)
 
 
 class Person:
