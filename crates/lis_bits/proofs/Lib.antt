@@ -1,7 +1,6 @@
 mod View
 mod Bits
 mod Joined
-mod Counts
 pub mod Subset
 mod OneRow
 pub mod Numbers

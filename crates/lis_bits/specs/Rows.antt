@@ -1,5 +1,5 @@
 -- What a contract sees of `Rows`.
-use Rattle.std.specs.Prelude.{◌≡◌, ◌≢◌, ℕ, ◌+◌, ◌-◌, ◌^◌, ◌<◌, ◌≤◌, min, Bool, false, List, [], length, map, count_by, slice_index_or, slice_set, replicate}
+use Rattle.std.specs.Prelude.{◌≡◌, ◌≢◌, ℕ, ◌+◌, ◌-◌, ◌^◌, ◌<◌, ◌≤◌, min, Bool, false, List, [], length, map, slice_index_or, slice_set, replicate}
 use Rattle.std.specs.List.{range_with_len}
 
 -- how many bits a row has, the truth values of each row by their bits, and how often a row was changed, up to the
@@ -32,10 +32,6 @@ with_row r row value = record { bits = r.bits; rows = slice_set r.rows row (row_
 -- rows that are all false
 abbrev pub empty_rows : ℕ → ℕ → Rows
 empty_rows rows bits = record { bits = bits; rows = replicate rows (replicate bits false); edits = 0 }
-
--- how many bits of the row are true
-abbrev pub true_count : Rows → ℕ → ℕ
-true_count r row = count_by (λ value. value) (row_at r row)
 
 -- no bit from the first number up to the second is true
 abbrev pub NoneTrue : Rows → ℕ → ℕ → ℕ → Type 0

@@ -24,7 +24,7 @@ impl Model for Flags {
 }
 
 impl Flags {
-    /// So many flags, all of them false.
+    /// New flags, all of them false.
     pub fn new(alloc: Global, bits: u32) -> Result<Flags, AllocError>
         requires whole_words { bits % 64 ≡ 0 }
         requires few { bits ≤ 2 ^ 27 }

@@ -30,13 +30,13 @@ impl Model for Rows {
 }
 
 impl Rows {
-    ghost use Rattle.lis_bits.specs.Rows.{get, empty_rows, with_row, true_count, NoneTrue};
+    ghost use Rattle.lis_bits.specs.Rows.{get, empty_rows, with_row, NoneTrue};
     ghost use Rattle.lis_bits.specs.Rows.{row_at, row_of};
     ghost use Rattle.lis_bits.specs.Bytes.{bits_number, bits_bytes};
     ghost use Rattle.lis_bits.specs.Words.{words_bit};
     ghost use Rattle.lis_bits.specs.Inside.{IsBitwise};
 
-    /// So many rows of so many bits, all of them false.
+    /// New rows of one width, with all bits false.
     pub fn new(alloc: Global, rows: u32, bits: u32) -> Result<Rows, AllocError>
         requires whole_words { bits % 64 ≡ 0 }
         requires few { rows * bits ≤ 2 ^ 27 }
@@ -124,7 +124,7 @@ impl Rows {
         self.join(to, from, |a, b| a & !b);
     }
 
-    /// Turns each bit of a row over.
+    /// Inverts each bit of a row.
     pub fn negate(&mut self, row: u32)
         requires { row < length self.old.rows }
         ensures { self.new ≡ with_row self.old row (λ bit. not (get self.old row bit)) }
@@ -132,20 +132,12 @@ impl Rows {
         self.join(row, row, |a, _| !a);
     }
 
-    /// How many calls that change a row, of those above and of the joins with a row of other rows, were made since
-    /// `new`. It stays at its last value, 2^64 - 1.
+    /// The number of calls since `new` that change a row: those above, and the joins with a row of other rows.
+    /// At 2^64 - 1 it stays.
     pub fn edits(&self) -> u64
         ensures { result ≡ self.now.edits }
     {
         self.edits
-    }
-
-    /// How many bits of a row are true.
-    pub fn count(&self, row: u32) -> u32
-        requires { row < length self.now.rows }
-        ensures { result ≡ true_count self.now row }
-    {
-        words::count(self.words(row))
     }
 
     /// Whether each bit that is true in the first row is true in the second one.
@@ -158,7 +150,7 @@ impl Rows {
         words::is_subset(self.words(a), self.words(b))
     }
 
-    /// The least true bit of a row that is at least `start`. Where `start` is no bit of the row there is none.
+    /// The least true bit of a row that is at least `start`. There is none if `start` is no bit of the row.
     pub fn next(&self, row: u32, start: u32) -> Option<u32>
         requires { row < length self.now.rows }
         ensures true_bit { IfSome result (λ bit. IsTrue (get self.now row bit)) }
@@ -172,7 +164,7 @@ impl Rows {
         Some(bit as u32)
     }
 
-    /// Writes a row as bytes: bit i % 8 of byte i / 8, bit 0 the lowest, tells bit i of the row.
+    /// Writes a row as bytes: bit i of the row is bit i % 8 of byte i / 8, and bit 0 is the lowest.
     pub fn row_bytes(&self, row: u32, buf: &mut [u8])
         requires row { row < length self.now.rows }
         requires room { 8 * length buf.old ≡ self.now.bits }

@@ -1,5 +1,5 @@
 ghost use Rattle.std.specs.Prelude.{ℕ, ◌+◌, ◌^◌, ◌<◌, ◌≤◌, length, slice_index};
-ghost use Rattle.std.specs.Prelude.{◌*◌, ◌≡◌, ◌==◌, ◌↔◌, IsTrue, MatchOption, sum_by, count_ones, bit_and, if◌then◌else◌};
+ghost use Rattle.std.specs.Prelude.{◌*◌, ◌≡◌, ◌==◌, ◌↔◌, IsTrue, MatchOption, bit_and, if◌then◌else◌};
 ghost use Rattle.std.specs.Int.{bit_not, w64};
 ghost use Rattle.lis_bits.specs.Bytes.{bits_number, bits_bytes};
 ghost use Rattle.lis_bits.specs.Words.{Joins, JoinsWith, AreApart, word_bit, words_bit, IsNextIn, NoneNextIn, IsNextFrom, NoneNextFrom, HasBytes};
@@ -43,18 +43,6 @@ pub(crate) fn with_bit(word: u64, bit: u32, value: bool) -> u64
 {
     let mask = 1u64 << bit;
     if value { word | mask } else { word & !mask }
-}
-
-// How many bits of the words are 1.
-pub(crate) fn count(words: &[u64]) -> u32
-    requires { 64 * length words.now < 2 ^ 32 }
-    ensures { result ≡ sum_by count_ones words.now }
-{
-    let mut ones = 0;
-    for word in words {
-        ones += word.count_ones();
-    }
-    ones
 }
 
 // Whether each bit that is 1 in the first words is 1 in the second ones.
@@ -106,7 +94,7 @@ pub(crate) fn write_bytes(words: &[u64], buf: &mut [u8])
     }
 }
 
-// Writes the bytes of one word behind those of the words before it.
+// Writes the bytes of one word after those of the words before it.
 fn write_word(words: &[u64], k: usize, buf: &mut [u8])
     requires word { k < length words.now }
     requires room { 8 * k + 8 ≤ length buf.old }

@@ -1,7 +1,7 @@
 -- What crates above need of files with index blocks, and of their placing.
 use Rattle.std.proofs.Common.{◌≡◌, ◌⊎◌, ℕ, ◌+◌, ◌-◌, ◌<◌, ◌≤◌, ◌==◌, nat_lt, Bool, true, false, not, ◌&&◌, ◌||◌, cond, List, [], ◌∷◌, ◌++◌, length, take, drop, IsTrue, refl, sym, ◌∙◌, ap, subst, inl, inr, arith, length-append, take-append-drop}
 use Rattle.std.specs.List.{flat_map}
-use Rattle.std.proofs.lemmas.Bool.{and_parts, cond-true, cond-false, eq-eqb}
+use Rattle.std.proofs.lemmas.Bool.{and_parts, or_left, or_right, cond-true, cond-false, eq-eqb}
 use Rattle.std.proofs.lemmas.List.Folds.{list_all-append, list_any-append}
 use Rattle.lis_ports.specs.Meaning.{Meaning}
 use Rattle.lis_model.specs.State.{blocks_needed, blocks_taken}
@@ -43,30 +43,18 @@ same_part : (base : ℕ) (blocks : List ℕ) (at after : ℕ → List ℕ) → A
 same_part base [] at after same = refl
 same_part base (b ∷ blocks) at after same =
     ap (λ xs. xs ++ flat_map (λ k. after (base + k)) blocks) (same (base + b) (ap (λ t. t || has_home base blocks (base + b)) (eq-eqb (base + b) (base + b) refl)))
-    ∙ ap (λ xs. at (base + b) ++ xs) (same_part base blocks at after (λ n has. same n (behind (base + b == n) (has_home base blocks n) has)))
-  where
-    behind : (a c : Bool) → c ≡ true → (a || c) ≡ true
-    behind true c is = refl
-    behind false c is = is
-
-front : (a c : Bool) → a ≡ true → (a || c) ≡ true
-front true c is = refl
-front false c is = absurd (let e : false ≡ true = is in cc)
-
-back : (a c : Bool) → c ≡ true → (a || c) ≡ true
-back true c is = refl
-back false c is = is
+    ∙ ap (λ xs. at (base + b) ++ xs) (same_part base blocks at after (λ n has. same n (or_right (base + b == n) (has_home base blocks n) has)))
 
 -- if two lists of blocks together are the same, each of them is
 same_front : (base : ℕ) (some more : List ℕ) (at after : ℕ → List ℕ) → AreSame base (some ++ more) at after → AreSame base some at after
-same_front base some more at after same n has = same n (list_any-append (λ b. base + b == n) some more ∙ front (has_home base some n) (has_home base more n) has)
+same_front base some more at after same n has = same n (list_any-append (λ b. base + b == n) some more ∙ or_left (has_home base some n) (has_home base more n) has)
 
 same_back : (base : ℕ) (some more : List ℕ) (at after : ℕ → List ℕ) → AreSame base (some ++ more) at after → AreSame base more at after
-same_back base some more at after same n has = same n (list_any-append (λ b. base + b == n) some more ∙ back (has_home base some n) (has_home base more n) has)
+same_back base some more at after same n has = same n (list_any-append (λ b. base + b == n) some more ∙ or_right (has_home base some n) (has_home base more n) has)
 
 index_among : (base : ℕ) (slot : List ℕ) → 0 < length slot → has_home base slot (index_home base slot) ≡ true
 index_among base [] some = absurd (omega arith)
-index_among base (b ∷ slot) some = front (base + b == base + b) (has_home base slot (base + b)) (eq-eqb (base + b) (base + b) refl)
+index_among base (b ∷ slot) some = or_left (base + b == base + b) (has_home base slot (base + b)) (eq-eqb (base + b) (base + b) refl)
 
 -- A file is the same if what its blocks have is the same.
 pub record SameFile (base : ℕ) (slot : List ℕ) (size : ℕ) (at after : ℕ → List ℕ) : Type 0 where

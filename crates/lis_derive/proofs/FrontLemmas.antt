@@ -5,9 +5,9 @@ use Rattle.lis_mail.specs.Header.{has_end_from}
 use Rattle.lis_mail.proofs.HeaderLemmas.{front_gives}
 use Rattle.lis_transducers.specs.Mail.{mail_words}
 use Rattle.lis_transducers.specs.Source.{source_words}
-use Rattle.lis_model.specs.Derived.{content_words, derived_words, size_word, suffix_of, suffix_words}
+use Rattle.lis_model.specs.Derived.{content_words, derived_words, is_mail, is_source, size_word, suffix_of, suffix_words}
 use Rattle.lis_model.specs.Noted.{noted_all}
-use Rattle.lis_derive.specs.Fronts.{FrontsGiveAll, gives_all, is_mail, is_source}
+use Rattle.lis_derive.specs.Fronts.{FrontsGiveAll, gives_all}
 
 not_so : (t : Bool) → not t ≡ true → t ≡ false
 not_so true is = sym is

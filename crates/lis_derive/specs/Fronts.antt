@@ -1,14 +1,7 @@
 -- How much of a file's bytes gives all words that are derived from them.
-use Rattle.std.specs.Prelude.{◌≡◌, ℕ, Bool, true, not, ◌&&◌, ◌||◌, Option, List, ◌++◌, length, codes}
+use Rattle.std.specs.Prelude.{◌≡◌, ℕ, Bool, true, not, ◌&&◌, ◌||◌, Option, List, ◌++◌, length}
 use Rattle.lis_mail.specs.Header.{has_end_from}
-use Rattle.lis_model.specs.Derived.{derived_words, is_suffix, suffix_of}
-
--- by the suffix of its name, a mail or a C source
-abbrev pub is_mail : Option (List ℕ) → Bool
-is_mail suffix = is_suffix (codes "eml") suffix
-
-abbrev pub is_source : Option (List ℕ) → Bool
-is_source suffix = is_suffix (codes "c") suffix || is_suffix (codes "h") suffix
+use Rattle.lis_model.specs.Derived.{derived_words, is_mail, is_source, suffix_of}
 
 -- Whether it is certain that a prefix gives all words: of a mail, if an empty line ends in it at index `seen` or later; of a C source
 -- never; of any other file always.

@@ -1,7 +1,8 @@
 //! How much of a file's bytes gives all its words.
 
 ghost use Rattle.std.specs.Prelude.{◌≡◌, ◌≤◌, Some, length};
-ghost use Rattle.lis_derive.specs.Fronts.{gives_all, is_source};
+ghost use Rattle.lis_model.specs.Derived.{is_source};
+ghost use Rattle.lis_derive.specs.Fronts.{gives_all};
 
 use crate::suffix::suffix_of;
 use lis_mail::has_end_from;

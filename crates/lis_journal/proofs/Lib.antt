@@ -13,6 +13,6 @@ mod Saving
 mod Absorbing
 mod Holding
 mod Loading
-mod Recovering
+pub mod Recovering
 pub mod Fitting
 pub mod Before

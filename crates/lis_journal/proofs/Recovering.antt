@@ -53,7 +53,7 @@ reading_settled : {old m : Meaning} → Reading old m → IsSettled m old.bytes
 reading_settled reading = record { reads = reading.reads; only = reading.only }
 
 -- ---- what a recovery makes of an image
-recovered-closed : (layout : Layout) (image : List ℕ) → has_open image ≡ false → recovered layout image ≡ image
+pub recovered-closed : (layout : Layout) (image : List ℕ) → has_open image ≡ false → recovered layout image ≡ image
 unfolding recovered
 recovered-closed layout image none = ap (λ b. cond b (recovered_as image (replayed layout image)) image) none
 

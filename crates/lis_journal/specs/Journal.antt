@@ -34,7 +34,3 @@ pub record Shape : Type 0 where
 
 abbrev pub shape_of : Held → Shape
 shape_of journal = record { layout = journal.layout; capacity = journal.capacity }
-
--- nothing is staged, and nothing is placed
-abbrev pub IsIdle : Held → Type 0
-IsIdle journal = (journal.staged ≡ []) × (journal.placed ≡ [])

@@ -129,7 +129,7 @@ module _ {P I : Type 0} (by : SituationOf P → I → OutcomeOf P) where
   last_situation start first item = after-append by start first (item ∷ [])
 
 -- ---- what commands keep
-judged_stays : (now : Situation) (checks : List (Bool × Refusal)) (outcome : Outcome) → outcome.next.place ≡ now.place → (judged now checks outcome).next.place ≡ now.place
+pub judged_stays : (now : Situation) (checks : List (Bool × Refusal)) (outcome : Outcome) → outcome.next.place ≡ now.place → (judged now checks outcome).next.place ≡ now.place
 judged_stays now [] outcome same = same
 judged_stays now (check ∷ checks) outcome same = by check.0 (judged_stays now checks outcome same)
   where

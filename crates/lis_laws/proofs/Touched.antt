@@ -173,7 +173,7 @@ test_stands declared w test = record { there = inr (inr (inr test)); head = λ v
 declared_stands : (s : State) → WellFormed s → (w : List ℕ) → Among s.declared w → Stands s.declared w
 declared_stands s formed w m = record { there = inl m; head = λ valued. absurd (both_ways (is_valued w) ((settled s formed).not_valued w m) valued) }
 
-met_is_test : (test : Option Test) (size : ℕ) → is_met test size ≡ true → is_some test ≡ true
+pub met_is_test : (test : Option Test) (size : ℕ) → is_met test size ≡ true → is_some test ≡ true
 met_is_test None size h = absurd cc
 met_is_test (Some test) size h = refl
 

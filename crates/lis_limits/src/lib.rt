@@ -95,7 +95,7 @@ pub const MAX_WORD: usize = 60;
 pub const SLOT_BLOCKS: u32 = 16;
 
 /// How many words have their slots in one block.
-pub const PROPERTIES_PER_BLOCK: u16 = 64;
+pub const PROPERTIES_PER_BLOCK: u32 = 64;
 
 /// How many files have their slots in one block.
-pub const FILES_PER_BLOCK: u16 = 16;
+pub const FILES_PER_BLOCK: u32 = 16;

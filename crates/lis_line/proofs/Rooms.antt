@@ -6,38 +6,19 @@ use Rattle.lis_model.specs.declared.refusal.Refusal.TheVariants.{LongLine}
 use Rattle.lis_model.specs.Step.{Item}
 use Rattle.lis_model.specs.Step.Item.{Bad}
 use Rattle.lis_model.specs.Script.{before_feed, after_feed, is_long, words_of, line_words, FirstOf, item_of, payload_size, payload_of, first_ended, first_with, first_by, first_of}
-use Rattle.lis_model.proofs.Lines.{IsOneLine, TakesSome, CutsBy, cuts_by, after_feed_at, after_feed_all, has_feed}
+use Rattle.lis_model.proofs.Lines.{IsOneLine, TakesSome, CutsBy, cuts_by, before_feed_at, before_feed_all, after_feed_at, after_feed_all, after_feed_shorter, ended_shorter, with_shorter, has_feed}
 use Rattle.lis_line.specs.Tagged.{Tagged, after_blanks, room_of, room_of_words, spoken_in, no_room, in_room, first_spoken, first_tagged, all_tagged, whole_tagged, tagged_cut}
 use Rattle.lis_line.proofs.Words.{word_len, word_within, one_word, word_fits}
 use Rattle.lis_line.proofs.Kept.{ByLines, by_lines, by_itself, session_lines}
 use Rattle.lis_words.specs.Bytes.{is_feed, without_return}
 
-before_feed_at : (text more : List ℕ) → IsOneLine text → before_feed (text ++ 10 ∷ more) ≡ text
-before_feed_at [] more h = refl
-before_feed_at (b ∷ text) more h = grind (arith, common_steps, before_feed_at text more)
-
-before_feed_all : (text : List ℕ) → IsOneLine text → before_feed text ≡ text
-before_feed_all [] h = refl
-before_feed_all (b ∷ text) h = grind (arith, common_steps, before_feed_all text)
-
 -- ---- the rest after a first segment is no longer than the input
-feed_shorter : (bytes : List ℕ) → length (after_feed bytes) ≤ length bytes
-feed_shorter [] = omega arith
-feed_shorter (b ∷ bytes) = grind (arith, common_steps, feed_shorter bytes)
-
-ended_shorter : (item : Option Item) (bytes : List ℕ) → length (first_ended item bytes).rest ≤ length bytes
-ended_shorter item [] = omega arith
-ended_shorter item (b ∷ bytes) = grind (arith, common_steps, feed_shorter bytes)
-
-with_shorter : (text : List ℕ) (size : ℕ) (bytes : List ℕ) → length (first_with text size bytes).rest ≤ length bytes
-with_shorter text size bytes = grind (arith, common_steps, ended_shorter (item_of text (payload_of size (take size bytes))) (drop size bytes), length-drop size bytes)
-
 rest_shorter : (bytes : List ℕ) → length (first_of bytes).rest ≤ length bytes
 rest_shorter bytes = by (payload_size (before_feed bytes))
   where
     by : (size : Option ℕ) → length (first_by size bytes).rest ≤ length bytes
-    by None = feed_shorter bytes
-    by (Some n) = omega (arith, feed_shorter bytes, with_shorter (before_feed bytes) n (after_feed bytes))
+    by None = after_feed_shorter bytes
+    by (Some n) = omega (arith, after_feed_shorter bytes, with_shorter (before_feed bytes) n (after_feed bytes))
 
 blanks_shorter : (text : List ℕ) → length (after_blanks text) ≤ length text
 blanks_shorter [] = omega arith
@@ -47,7 +28,7 @@ tagged_some : TakesSome first_tagged
 tagged_some b bytes = by (spoken_in (before_feed (b ∷ bytes)))
   where
     by : (room : Option ℕ) → length (first_spoken room (b ∷ bytes)).rest ≤ length bytes
-    by None = grind (arith, common_steps, feed_shorter bytes)
+    by None = grind (arith, common_steps, after_feed_shorter bytes)
     by (Some room) =
         omega (arith, rest_shorter (drop 2 (after_blanks (b ∷ bytes))), length-drop 2 (after_blanks (b ∷ bytes)), blanks_shorter (b ∷ bytes))
 

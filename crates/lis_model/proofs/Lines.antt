@@ -17,7 +17,7 @@ use Rattle.lis_words.specs.Bytes.{is_feed}
 abbrev pub IsOneLine : List ℕ → Type 0
 IsOneLine text = list_any is_feed text ≡ false
 
-after_feed_shorter : (bytes : List ℕ) → length (after_feed bytes) ≤ length bytes
+pub after_feed_shorter : (bytes : List ℕ) → length (after_feed bytes) ≤ length bytes
 after_feed_shorter [] = omega arith
 after_feed_shorter (b ∷ bytes) = by (is_feed b) (after_feed_shorter bytes)
   where
@@ -25,7 +25,7 @@ after_feed_shorter (b ∷ bytes) = by (is_feed b) (after_feed_shorter bytes)
     by true more = omega arith
     by false more = omega (arith, more)
 
-ended_shorter : (item : Option Item) (bytes : List ℕ) → length (first_ended item bytes).rest ≤ length bytes
+pub ended_shorter : (item : Option Item) (bytes : List ℕ) → length (first_ended item bytes).rest ≤ length bytes
 ended_shorter item [] = omega arith
 ended_shorter item (b ∷ bytes) = by (is_feed b) (after_feed_shorter bytes)
   where
@@ -35,7 +35,7 @@ ended_shorter item (b ∷ bytes) = by (is_feed b) (after_feed_shorter bytes)
     by true more = omega arith
     by false more = omega (arith, more)
 
-with_shorter : (text : List ℕ) (size : ℕ) (bytes : List ℕ) → length (first_with text size bytes).rest ≤ length bytes
+pub with_shorter : (text : List ℕ) (size : ℕ) (bytes : List ℕ) → length (first_with text size bytes).rest ≤ length bytes
 with_shorter text size bytes = by (nat_lt (length bytes) size) (ended_shorter (item_of text (payload_of size (take size bytes))) (drop size bytes)) (length-drop size bytes)
   where
     by : (t : Bool) → length (first_ended (item_of text (payload_of size (take size bytes))) (drop size bytes)).rest ≤ length (drop size bytes)
@@ -126,7 +126,7 @@ all_items_of bytes first some is = session_cuts.all bytes first some is
 pub all_items_none : all_items [] ≡ []
 all_items_none = session_cuts.all_none
 
-before_feed_at : (text more : List ℕ) → IsOneLine text → before_feed (text ++ 10 ∷ more) ≡ text
+pub before_feed_at : (text more : List ℕ) → IsOneLine text → before_feed (text ++ 10 ∷ more) ≡ text
 before_feed_at [] more h = refl
 before_feed_at (b ∷ text) more h = by (is_feed b) h (before_feed_at text more)
   where
@@ -144,7 +144,7 @@ after_feed_at (b ∷ text) more h = by (is_feed b) h (after_feed_at text more)
     by true h ih = absurd (cc)
     by false h ih = ih h
 
-before_feed_all : (text : List ℕ) → IsOneLine text → before_feed text ≡ text
+pub before_feed_all : (text : List ℕ) → IsOneLine text → before_feed text ≡ text
 before_feed_all [] h = refl
 before_feed_all (b ∷ text) h = by (is_feed b) h (before_feed_all text)
   where

@@ -37,11 +37,18 @@ abbrev pub is_suffix : List ℕ → Option (List ℕ) → Bool
 is_suffix text None = false
 is_suffix text (Some suffix) = same_word suffix text
 
+-- by the suffix of its name, a mail or a C source
+abbrev pub is_mail : Option (List ℕ) → Bool
+is_mail suffix = is_suffix (codes "eml") suffix
+
+abbrev pub is_source : Option (List ℕ) → Bool
+is_source suffix = is_suffix (codes "c") suffix || is_suffix (codes "h") suffix
+
 -- the words that the bytes of a mail or of a C source give
 abbrev pub content_words : Option (List ℕ) → List ℕ → List (List ℕ)
 content_words suffix bytes =
-    (if is_suffix (codes "eml") suffix then mail_words bytes else [])
-    ++ (if is_suffix (codes "c") suffix || is_suffix (codes "h") suffix then source_words bytes else [])
+    (if is_mail suffix then mail_words bytes else [])
+    ++ (if is_source suffix then source_words bytes else [])
 
 -- the first 48 distinct words of the name, the size and the content
 abbrev pub derived_words : List ℕ → List ℕ → List (List ℕ)

@@ -27,6 +27,7 @@ use Rattle.lis_words.specs.declared.test.Test.{Test}
 use Rattle.lis_words.specs.Words.{test_of}
 use Rattle.lis_laws.proofs.Apart.{test_not_valued}
 use Rattle.lis_laws.proofs.Counts.{all_from}
+use Rattle.lis_laws.proofs.Touched.{met_is_test}
 use Rattle.lis_model.specs.Tests.{is_met}
 use Rattle.lis_store.proofs.MetTests.{met_first, met_next, unmet_next, met_before, met_behind}
 use Rattle.lis_open.specs.ReadWords.{AreWords, declared_words, kept_words}
@@ -141,10 +142,6 @@ module _ (words : Words) (size : ℕ) (old : List ℕ) where
         subst (λ ns. Gathered old (met found number) ns) (sym more) (gathered_then old found (met found number) (numbers_of words.dict before) (number ∷ []) was (gathered_one found number))
 
 -- ---- with what is derived
--- only a test is met
-met_is_test : (test : Option Test) (size : ℕ) → is_met test size ≡ true → is_some test ≡ true
-met_is_test test size met = search (rules, both_ways)
-
 module _ (words : Words) (dict : IsDict words.dict) (size : ℕ) where
   abbrev met_words : List (List ℕ)
   met_words = met_tests (declared_words words) size

@@ -7,16 +7,12 @@ use Rattle.lis_ports.specs.Runs.{Leaves, IsSettled}
 use Rattle.lis_ports.proofs.Moments.{leaves_weaken}
 use Rattle.lis_journal.specs.declared.layout.Layout.{Layout}
 use Rattle.lis_journal.specs.Record.{has_open, replayed, recovered_as, recovered}
+use Rattle.lis_journal.proofs.Recovering.{recovered-closed}
 use Rattle.lis_kept.specs.Image.{image_layout}
 use Rattle.lis_store.specs.Stored.{Stored}
 use Rattle.lis_open.specs.declared.mounting.OpenFault.{OpenFault}
 use Rattle.lis_open.specs.declared.mounting.OpenFault.TheVariants.{TooShort, Damaged, DiskFault, NoMemory}
 use Rattle.lis_open.specs.Opens.{Recovers, OpenLeft, InOpening, Unwritten, OpenUnwritten}
-
--- there is nothing to recover
-recovered-shut : (layout : Layout) (image : List ℕ) → has_open image ≡ false → recovered layout image ≡ image
-unfolding recovered
-recovered-shut layout image shut = ap (λ b. cond b (recovered_as image (replayed layout image)) image) shut
 
 unchanged_unwritten : {old new : Meaning} → IsUnchanged old new → Unwritten old new
 unchanged_unwritten same = record { bytes = same.bytes; images = λ image there. inl (same.images.only image there) }
@@ -28,7 +24,7 @@ had_before old shut image (inr recovering) = absurd (both_ways (has_open old.byt
 module _ {old new : Meaning} (shut : has_open old.bytes ≡ false) where
   recovered_unwritten : Recovers old new → Unwritten old new
   recovered_unwritten at =
-      let settled : IsSettled new old.bytes = subst (IsSettled new) (recovered-shut (image_layout at.0) old.bytes shut) at.2 in
+      let settled : IsSettled new old.bytes = subst (IsSettled new) (recovered-closed (image_layout at.0) old.bytes shut) at.2 in
       record { bytes = settled.reads; images = λ image there. inr (settled.only image there) }
 
   left_unwritten : (result : Result Stored OpenFault) → OpenLeft old new result → result ≢ Err DiskFault → Unwritten old new

@@ -11,19 +11,11 @@ use Rattle.lis_model.specs.Replies.{body_line, content_lines}
 use Rattle.lis_model.specs.Changes.{new_file, file_added, file_of}
 use Rattle.lis_model.specs.Step.{Situation, Outcome, Payload, refused, changed, shown, judged, assigned_at, create_checks, here_checks, shown_here, entry_at, done}
 use Rattle.lis_session.specs.Parts.{is_change}
-use Rattle.lis_laws.proofs.Regular.{mkdir_stays, rmdir_stays, axiom_stays, unaxiom_stays, add_stays, write_stays, rename_stays, mv_stays, rm_stays}
+use Rattle.lis_laws.proofs.Regular.{judged_stays, mkdir_stays, rmdir_stays, axiom_stays, unaxiom_stays, add_stays, write_stays, rename_stays, mv_stays, rm_stays}
 
 abbrev pub moves : Command → Bool
 moves (Cd text) = true
 moves command = false
-
-judged_stays : (now : Situation) (checks : List (Bool × Refusal)) (outcome : Outcome) → outcome.next.place ≡ now.place → (judged now checks outcome).next.place ≡ now.place
-judged_stays now [] outcome same = same
-judged_stays now (check ∷ checks) outcome same = by check.0 (judged_stays now checks outcome same)
-  where
-    by : (t : Bool) → (judged now checks outcome).next.place ≡ now.place → (cond t (refused now check.1) (judged now checks outcome)).next.place ≡ now.place
-    by true rest = refl
-    by false rest = rest
 
 here_stays : (now : Situation) (name body : List ℕ) → (shown_here now name body).next.place ≡ now.place
 here_stays now name body = judged_stays now (here_checks now name) (shown now body) refl

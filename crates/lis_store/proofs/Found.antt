@@ -2,13 +2,13 @@
 use Rattle.lis_store.proofs.Common.{◌≡◌, ◌⊎◌, refl, sym, ap, ◌∙◌, subst, inl, inr, ℕ, zero, suc, ◌+◌, ◌<◌, ◌≤◌, Bool, true, false, cond, ◌||◌, is_some, Option, Some, None, List, [], ◌∷◌, ◌++◌, length, take, get_or, arith, or-false, take_more, flat_map, range_with_len, count_by, eq-eqb, eqb-true, both_ways, false_from_ne_true, none-some, Among, among_append, among_left, among_right, among_from_any, any_from_among, among_from_contains, among_flat_map, flat_map_among, number_of, word_of, word_from_number, number_from_word, is_valued, head_bytes, heads, up, all_up, met_tests, links, Chain, OwnLink, Head, Weaker, up_self, up_trans, entails_from_up, up_from_entails, head_not_valued, among_heads, entailing, entailed_in, all_up_closed, same_tests, Metadata, AreSound, TellsLinks, declared_of, axioms_of, Taxonomy, named_below, few_properties, one_number, declared_has_number, among_axiom, numbers_same, numbers_where}
 use Rattle.std.specs.Prelude.{nat_eq}
 use Rattle.lis_graph.specs.Graph.{Linked}
-use Rattle.lis_taxonomy.specs.Search.{is_found, met}
+use Rattle.lis_taxonomy.specs.Search.{AreBelow, is_found, met}
 use Rattle.lis_taxonomy.specs.Taxonomy.{entails, any_entails}
 use Rattle.lis_taxonomy.proofs.Searches.{met_found}
 use Rattle.lis_laws.proofs.Chains.{heads_of_valued, own_link, links_head, up_own}
 use Rattle.lis_store.specs.Adding.{is_one_of, numbers_named}
 use Rattle.lis_store.specs.Describing.{with_heads}
-use Rattle.lis_store.specs.Finding.{AreBelow, FindsWords, FindsAll}
+use Rattle.lis_store.specs.Finding.{FindsWords, FindsAll}
 use Rattle.lis_store.proofs.Assigned.{flat_next}
 use Rattle.lis_store.proofs.Entailed.{entails_told}
 use Rattle.lis_store.proofs.MetTests.{met_numbered}

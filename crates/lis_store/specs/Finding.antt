@@ -1,18 +1,12 @@
 -- What a search finds of words: their numbers, and those of all that they entail.
-use Rattle.std.specs.Prelude.{◌≡◌, ℕ, ◌<◌, ◌≤◌, ◌||◌, List, length, IsTrue}
-use Rattle.lis_limits.specs.declared.TheConstants.{MAX_PROPS}
+use Rattle.std.specs.Prelude.{◌≡◌, ℕ, ◌||◌, List, length, IsTrue}
 use Rattle.lis_dict.specs.Dict.{word_of}
 use Rattle.lis_ext.specs.Numbers.{numbers_where}
-use Rattle.lis_taxonomy.specs.Search.{is_found}
+use Rattle.lis_taxonomy.specs.Search.{AreBelow, is_found}
 use Rattle.lis_model.specs.State.{all_up}
 use Rattle.lis_kept.specs.Metadata.{Metadata}
 use Rattle.lis_kept.specs.Telling.{declared_of, axioms_of}
 use Rattle.lis_store.specs.Adding.{is_one_of}
-
--- the found numbers are below `props`
-pub record AreBelow (props : ℕ) (found : List ℕ) : Type 0 where
-  pub few : props ≤ MAX_PROPS
-  pub below : (n : ℕ) → IsTrue (is_found found n) → n < props
 
 -- the numbers of these words are found too, of those that have one
 abbrev pub FindsWords : Metadata → List (List ℕ) → List ℕ → List ℕ → Type 0

@@ -2,14 +2,14 @@
 
 ghost use Rattle.std.specs.Prelude.{◌≡◌, ℕ, ◌<◌, ◌≤◌, ◌&&◌, [], ◌∷◌, ◌++◌, length};
 ghost use Rattle.lis_ext.specs.Numbers.{numbers_where};
-ghost use Rattle.lis_taxonomy.specs.Search.{is_found};
+ghost use Rattle.lis_taxonomy.specs.Search.{AreBelow, is_found};
 ghost use Rattle.lis_words.specs.Words.{test_of};
 ghost use Rattle.lis_model.specs.State.{heads};
 ghost use Rattle.lis_model.specs.Tests.{is_met, met_tests};
 ghost use Rattle.lis_kept.specs.Sound.{AreSound};
 ghost use Rattle.lis_kept.specs.Telling.{is_declared, declared_of};
 ghost use Rattle.lis_store.specs.Describing.{with_heads};
-ghost use Rattle.lis_store.specs.Finding.{AreBelow, FindsWords, FindsAll};
+ghost use Rattle.lis_store.specs.Finding.{FindsWords, FindsAll};
 
 use arrayvec::ArrayVec;
 use lis_kept::Metadata;

@@ -28,7 +28,7 @@ pub struct Taxonomy {
     props: u32,
     // In the order of their left sides, and then of their right sides.
     edges: Vec<(u32, u32)>,
-    // Each number to which an edge leads, or has led, is marked: a new edge from another one closes no cycle.
+    // Each number to which an edge leads, or has led, is marked: a new edge to another number closes no cycle.
     entered: Flags,
     // For the test of a new edge.
     search: Search,
@@ -53,7 +53,7 @@ impl Taxonomy {
     ghost use Rattle.lis_taxonomy.specs.Search.{is_found};
     ghost use Rattle.lis_taxonomy.specs.Taxonomy.{has_edge, edge_count, edge_room, Entails, IsAcyclic, LeadsToMarked, any_entails, empty_taxonomy, with_edge, without_edge};
 
-    /// A taxonomy of so many numbers, with no edge.
+    /// A taxonomy of the numbers below `props`, with no edge.
     pub fn new(alloc: Global, props: u32) -> Result<Taxonomy, AllocError>
         requires { props ≤ MAX_PROPS }
         ensures { IfOk result (λ made. made ≡ empty_taxonomy props) }
@@ -66,7 +66,7 @@ impl Taxonomy {
         })
     }
 
-    /// How many numbers there are. The contract also tells what each taxonomy keeps.
+    /// How many numbers there are. The other clauses say what holds of each taxonomy.
     pub fn props(&self) -> u32
         ensures value { result ≡ self.now.props }
         ensures acyclic { IsAcyclic self.now }
@@ -138,7 +138,7 @@ impl Taxonomy {
     }
 
     /// Finds all that these numbers entail, themselves included.
-    pub fn find_all(&self, numbers: &[u16], search: &mut Search)
+    pub fn find_all(&self, numbers: &[u32], search: &mut Search)
         requires { All (λ p. p < self.now.props) numbers.now }
         ensures found { (q : ℕ) → is_found search.new q ≡ any_entails self.now numbers.now q }
         ensures below { (q : ℕ) → IsTrue (is_found search.new q) → q < self.now.props }
@@ -147,7 +147,7 @@ impl Taxonomy {
         let edges = &self.edges;
         search.clear();
         for number in numbers {
-            search.meet(u32::from(*number));
+            search.meet(*number);
         }
         search.close(edges);
     }

@@ -9,7 +9,7 @@ use Rattle.lis_taxonomy.proofs.taxonomy.Taxonomy.find_all.Goals as goal
 
 pub meet-requires : goal.meet-requires
 meet-requires c =
-    omega (arith, c.from.ensures, c.requires c.loop-number.number-index 0 c.loop-number-test.true, c.self.invariant.order.few, ap (λ (t : Taxonomy). t.props) c.self.view_is)
+    omega (arith, c.requires c.loop-number.number-index 0 c.loop-number-test.true, c.self.invariant.order.few, ap (λ (t : Taxonomy). t.props) c.self.view_is)
 
 searched : (c : goal.After-close) → IsSearched c.self.inside.edges.items c.args.numbers.now c.close.new.self
 searched c =
