@@ -83,14 +83,14 @@ impl BlockMap {
     }
 
     /// Whether a block is taken: false past the last block.
-    pub fn is_taken(&self, n: u16) -> bool
+    pub fn is_taken(&self, n: u32) -> bool
         ensures { result ≡ is_taken self.now n }
     {
-        self.tells(u32::from(n))
+        self.tells(n)
     }
 
     /// Takes a free block, if there is one.
-    pub fn take(&mut self) -> Option<u16>
+    pub fn take(&mut self) -> Option<u32>
         ensures none { IsNone result ↔ (free_count self.old ≡ 0) }
         ensures stays { IfNone result (self.new ≡ self.old) }
         ensures within { IfSome result (λ n. n < length self.old) }
@@ -101,27 +101,27 @@ impl BlockMap {
         let n = self.rows.next(0, 0)?;
         self.rows.put(0, n, false);
         self.free -= 1;
-        Some(n as u16)
+        Some(n)
     }
 
     /// Makes a taken block free.
-    pub fn give(&mut self, n: u16)
+    pub fn give(&mut self, n: u32)
         requires { IsTrue (is_taken self.old n) }
         ensures given { self.new ≡ slice_set self.old n false }
         ensures more { free_count self.new ≡ free_count self.old + 1 }
     {
-        self.rows.put(0, u32::from(n), true);
+        self.rows.put(0, n, true);
         self.free += 1;
     }
 
     /// Takes this free block.
-    pub fn mark(&mut self, n: u16)
+    pub fn mark(&mut self, n: u32)
         requires within { n < length self.old }
         requires free { is_taken self.old n ≡ false }
         ensures marked { self.new ≡ slice_set self.old n true }
         ensures fewer { free_count self.new + 1 ≡ free_count self.old }
     {
-        self.rows.put(0, u32::from(n), false);
+        self.rows.put(0, n, false);
         self.free -= 1;
     }
 

@@ -29,7 +29,7 @@ pub struct Catalog {
     // For each slot, the record of the file in it.
     records: Vec<Option<FileRec>>,
     // The slots that have a record, in the order of the names.
-    order: Vec<u16>,
+    order: Vec<u32>,
 }
 
 impl Model for Catalog {
@@ -46,14 +46,14 @@ impl Model for Catalog {
 }
 
 // The record in the slot.
-fn record_at(records: &[Option<FileRec>], slot: u16) -> Option<&FileRec>
+fn record_at(records: &[Option<FileRec>], slot: u32) -> Option<&FileRec>
     ensures { MatchOption result (slice_index_or records.now slot None ≡ None) (λ rec. slice_index_or records.now slot None ≡ Some rec.now) }
 {
-    records.get(usize::from(slot))?.as_ref()
+    records.get(slot as usize)?.as_ref()
 }
 
 // The name of the file in the slot, or no bytes.
-fn name_at(records: &[Option<FileRec>], slot: u16) -> &[u8]
+fn name_at(records: &[Option<FileRec>], slot: u32) -> &[u8]
     ensures { result.now ≡ (record_in records.now slot).name }
 {
     match record_at(records, slot) {
@@ -101,7 +101,7 @@ impl Catalog {
     }
 
     /// The slot of the file that has the name, which is a file name.
-    pub fn slot_of(&self, name: &Name) -> Option<u16>
+    pub fn slot_of(&self, name: &Name) -> Option<u32>
         ensures slot { result ≡ slot_of self.now name.now }
         ensures name { IsTrue (is_file_name name.now) }
     {
@@ -109,7 +109,7 @@ impl Catalog {
     }
 
     // The same. The contract also says what holds of every catalog.
-    fn holder(&self, name: &Name) -> Option<u16>
+    fn holder(&self, name: &Name) -> Option<u32>
         ensures slot { result ≡ slot_of self.now name.now }
         ensures name { IsTrue (is_file_name name.now) }
         ensures kept { IsCatalog self.now }
@@ -134,7 +134,7 @@ impl Catalog {
     }
 
     /// The k-th name in byte order, and its file's slot.
-    pub fn file_at(&self, k: u32) -> Option<(Name, u16)>
+    pub fn file_at(&self, k: u32) -> Option<(Name, u32)>
         ensures { result ≡ option_map (λ (f : Filed). (f.rec.name, f.slot)) (slice_get self.now.entries k) }
     {
         let (slot, rec) = self.entry(k)?;
@@ -142,7 +142,7 @@ impl Catalog {
     }
 
     /// The k-th file in the order of names: its slot, and its record with the name.
-    pub fn entry(&self, k: u32) -> Option<(u16, &FileRec)>
+    pub fn entry(&self, k: u32) -> Option<(u32, &FileRec)>
         ensures { MatchOption result (slice_get self.now.entries k ≡ None)
             (λ file. slice_get self.now.entries k ≡ Some (record { slot = file.0; rec = file.1.now })) }
     {
@@ -151,14 +151,14 @@ impl Catalog {
     }
 
     /// The record of the file in the slot.
-    pub fn rec(&self, slot: u16) -> Option<&FileRec>
+    pub fn rec(&self, slot: u32) -> Option<&FileRec>
         ensures { MatchOption result (rec_at self.now slot ≡ None) (λ rec. rec_at self.now slot ≡ Some rec.now) }
     {
         record_at(&self.records, slot)
     }
 
     // The index of the file in the slot, in the order of names.
-    fn place_of(&self, slot: u16) -> Option<usize>
+    fn place_of(&self, slot: u32) -> Option<usize>
         ensures none { IfNone result (rec_at self.now slot ≡ None) }
         ensures place { IfSome result (λ k. slice_get (slots self.now) k ≡ Some slot) }
     {
@@ -170,7 +170,7 @@ impl Catalog {
     }
 
     /// Adds a file in a free slot, and returns the slot.
-    pub fn add(&mut self, rec: FileRec) -> Result<u16, CatalogFault>
+    pub fn add(&mut self, rec: FileRec) -> Result<u32, CatalogFault>
         ensures { Adds self.old rec self.new result }
     {
         if self.slot_of(&rec.name).is_some() {
@@ -179,13 +179,13 @@ impl Catalog {
         let Some(slot) = free_slot(&self.records) else {
             return Err(CatalogFault::NoFileRoom);
         };
-        let slot = slot as u16;
+        let slot = slot as u32;
         self.place(slot, rec);
         Ok(slot)
     }
 
     /// Replaces the record of the file in the slot.
-    pub fn replace(&mut self, slot: u16, rec: FileRec) -> Result<(), CatalogFault>
+    pub fn replace(&mut self, slot: u32, rec: FileRec) -> Result<(), CatalogFault>
         requires { IsSome (rec_at self.old slot) }
         ensures { Replaces self.old slot rec self.new result }
     {
@@ -200,17 +200,17 @@ impl Catalog {
     }
 
     /// Removes the file from the slot, and returns its record.
-    pub fn remove(&mut self, slot: u16) -> Option<FileRec>
+    pub fn remove(&mut self, slot: u32) -> Option<FileRec>
         ensures was { result ≡ rec_at self.old slot }
         ensures gone { self.new ≡ without_slot self.old slot }
     {
         let place = self.place_of(slot)?;
         self.order.remove(place);
-        self.records[usize::from(slot)].take()
+        self.records[slot as usize].take()
     }
 
     /// Adds a file in this slot.
-    pub fn place(&mut self, slot: u16, rec: FileRec)
+    pub fn place(&mut self, slot: u32, rec: FileRec)
         requires below { slot < self.old.files }
         requires free { rec_at self.old slot ≡ None }
         requires new { slot_of self.old rec.name ≡ None }
@@ -219,7 +219,7 @@ impl Catalog {
         let Err(place) = self.find(&rec.name) else {
             unreachable!()
         };
-        self.records[usize::from(slot)] = Some(rec);
+        self.records[slot as usize] = Some(rec);
         let Ok(()) = self.order.insert(place, slot) else {
             unreachable!()
         };

@@ -12,11 +12,11 @@ use lis_limits::BLOCK_LEN;
 use lis_ports::{Disk, Failed};
 
 /// The home of a data block, in an image of `blocks` blocks.
-pub fn home(blocks: u32, base: u32, n: u16) -> u32
+pub fn home(blocks: u32, base: u32, n: u32) -> u32
     requires { base + n < blocks }
     ensures { result ≡ base + n }
 {
-    base + u32::from(n)
+    base + n
 }
 
 /// Reads as many bytes of a block as the buffer has. A whole block is read straight into the buffer.

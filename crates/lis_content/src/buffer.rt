@@ -43,7 +43,7 @@ fn read_front<D: Disk>(
     journal: &Journal,
     disk: &mut D,
     base: u32,
-    blocks: &[u16],
+    blocks: &[u32],
     size: u32,
 ) -> Result<(), Failed>
     requires short { size ≤ length items.old }
@@ -76,7 +76,7 @@ fn read_frame<D: Disk>(
     journal: &Journal,
     disk: &mut D,
     base: u32,
-    blocks: &[u16],
+    blocks: &[u32],
     size: u32,
 ) -> Result<(), Failed>
     requires kept { IsKept region.old frame.now size }
@@ -175,7 +175,7 @@ impl Buffer {
         journal: &Journal,
         disk: &mut D,
         base: u32,
-        blocks: &[u16],
+        blocks: &[u32],
         size: u32,
     ) -> Result<(), Failed>
         requires short { size ≤ MAX_LARGE_FILE }

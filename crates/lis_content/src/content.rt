@@ -25,9 +25,9 @@ pub fn put<D: Disk>(
     journal: &mut Journal,
     disk: &mut D,
     base: u32,
-    old: &[u16],
+    old: &[u32],
     bytes: &[u8],
-) -> Result<ArrayVec<u16, 16>, PutFault>
+) -> Result<ArrayVec<u32, 16>, PutFault>
     requires few { length bytes.now ≤ MAX_FILE }
     requires distinct { IsTrue (are_distinct old.now) }
     requires taken { IsTrue (are_taken map.old old.now) }
@@ -55,7 +55,7 @@ fn stage_bytes(
     journal: &mut Journal,
     base: u32,
     bytes: &[u8],
-) -> ArrayVec<u16, 16>
+) -> ArrayVec<u32, 16>
     requires few { length bytes.now ≤ MAX_FILE }
     requires enough { blocks_needed (length bytes.now) ≤ free_count map.old }
     requires home { homes_start journal.old.layout ≤ base }
@@ -82,7 +82,7 @@ pub fn read<D: Disk>(
     journal: &Journal,
     disk: &mut D,
     base: u32,
-    blocks: &[u16],
+    blocks: &[u32],
     size: u32,
     buf: &mut [u8],
 ) -> Result<(), Failed>
@@ -111,7 +111,7 @@ pub fn read<D: Disk>(
 }
 
 /// Frees the blocks of a file.
-pub fn drop_file(map: &mut BlockMap, blocks: &[u16])
+pub fn drop_file(map: &mut BlockMap, blocks: &[u32])
     requires distinct { IsTrue (are_distinct blocks.now) }
     requires taken { IsTrue (are_taken map.old blocks.now) }
     ensures given { map.new ≡ given map.old blocks.now }

@@ -1,7 +1,6 @@
 //! The bytes of a file, with an index block if a slot has too few numbers: read, and dropped.
 
 ghost use Rattle.std.specs.Prelude.{◌≡◌, ◌<◌, ◌≤◌, ◌==◌, ℕ, List, None, true, false, length, slice_index, slice_set, IsTrue, IfOk, IfSome, OnOk, OnErr};
-ghost use Rattle.std.specs.List.{list_all};
 ghost use Rattle.lis_ports.specs.Calls.{ReadsDisk};
 ghost use Rattle.lis_model.specs.State.{blocks_needed, blocks_taken};
 ghost use Rattle.lis_journal.specs.Images.{Fits, look, held_in, JournalIsUsable};
@@ -15,6 +14,7 @@ use crate::content::read;
 use arrayvec::ArrayVec;
 use byteorder::{ByteOrder, LittleEndian};
 use lis_blockmap::BlockMap;
+use lis_fields::{are_zeros, read_shorts};
 use lis_journal::Journal;
 use lis_limits::{BLOCK_LEN, MAX_FILE_BLOCKS, MAX_LARGE_FILE, SLOT_BLOCKS};
 use lis_ports::{Disk, Failed};
@@ -23,7 +23,7 @@ use lis_ports::{Disk, Failed};
 #[derive(Clone, Copy)]
 pub struct Laid<'a> {
     pub base: u32,
-    pub blocks: &'a [u16],
+    pub blocks: &'a [u32],
     pub size: u32,
 }
 
@@ -88,16 +88,16 @@ pub fn read_index_block<D: Disk>(
 }
 
 // The k-th number of a block, counted from 0.
-fn number_at(block: &[u8], k: usize) -> u16
+fn number_at(block: &[u8], k: usize) -> u32
     requires whole { length block.now ≡ BLOCK_LEN }
     requires place { k < MAX_FILE_BLOCKS }
     ensures { result ≡ number_at block.now k }
 {
-    LittleEndian::read_u16(&block[2 * k..])
+    u32::from(LittleEndian::read_u16(&block[2 * k..]))
 }
 
 // The number of the n-th block of the content, by the index block if there is one.
-fn number_of(blocks: &[u16], size: u32, index: &[u8], n: u32) -> u16
+fn number_of(blocks: &[u32], size: u32, index: &[u8], n: u32) -> u32
     requires few { size ≤ MAX_LARGE_FILE }
     requires count { length blocks.now ≡ slot_count size }
     requires whole { length index.now ≡ BLOCK_LEN }
@@ -116,7 +116,7 @@ fn read_within<D: Disk>(
     journal: &Journal,
     disk: &mut D,
     base: u32,
-    number: u16,
+    number: u32,
     buf: &mut [u8],
 ) -> Result<(), Failed>
     requires whole { length buf.old ≡ BLOCK_LEN }
@@ -129,11 +129,11 @@ fn read_within<D: Disk>(
     ensures fits { (kept : ℕ → List ℕ) → Fits journal.now (D.meaning disk.old) kept
         → Fits journal.now (D.meaning disk.new) kept }
 {
-    if u32::from(number) >= journal.blocks() - base {
+    if number >= journal.blocks() - base {
         fill(buf, &[]);
         return Ok(());
     }
-    read_home(journal, disk, base + u32::from(number), buf)
+    read_home(journal, disk, base + number, buf)
 }
 
 /// Reads the n-th block of a file's content, by the index block if the file has one. After the content's end the block has any bytes. If
@@ -195,7 +195,7 @@ pub fn read_block<D: Disk>(
 }
 
 // Frees a block, if it is taken.
-fn give_taken(map: &mut BlockMap, n: u16)
+fn give_taken(map: &mut BlockMap, n: u32)
     ensures { map.new ≡ slice_set map.old n false }
 {
     if map.is_taken(n) {
@@ -204,7 +204,7 @@ fn give_taken(map: &mut BlockMap, n: u16)
 }
 
 // Frees those of these blocks that are taken.
-fn give_all(map: &mut BlockMap, blocks: &[u16])
+fn give_all(map: &mut BlockMap, blocks: &[u32])
     ensures { map.new ≡ given map.old blocks.now }
 {
     for n in blocks {
@@ -213,14 +213,14 @@ fn give_all(map: &mut BlockMap, blocks: &[u16])
 }
 
 // The first `count` numbers of a block.
-fn numbers_in(block: &[u8], count: usize) -> ArrayVec<u16, MAX_FILE_BLOCKS>
+fn numbers_in(block: &[u8], count: usize) -> ArrayVec<u32, MAX_FILE_BLOCKS>
     requires whole { length block.now ≡ BLOCK_LEN }
     requires few { count ≤ MAX_FILE_BLOCKS }
     ensures { result.items ≡ numbers_in count block.now }
 {
     let mut held = [0; MAX_FILE_BLOCKS];
     let (used, _) = held.split_at_mut(count);
-    LittleEndian::read_u16_into(&block[..2 * count], used);
+    read_shorts(&block[..2 * count], used);
     let mut numbers = ArrayVec::new();
     numbers.try_extend_from_slice(used).unwrap();
     numbers
@@ -232,7 +232,7 @@ fn read_index<D: Disk>(
     disk: &mut D,
     n: u32,
     count: usize,
-) -> Result<ArrayVec<u16, MAX_FILE_BLOCKS>, Failed>
+) -> Result<ArrayVec<u32, MAX_FILE_BLOCKS>, Failed>
     requires home { homes_start journal.now.layout ≤ n }
     requires within { n < journal.now.layout.blocks }
     requires few { count ≤ MAX_FILE_BLOCKS }
@@ -249,16 +249,9 @@ fn read_index<D: Disk>(
     Ok(numbers_in(&block, count))
 }
 
-/// Whether each of these bytes is zero.
-pub fn are_zeros(bytes: &[u8]) -> bool
-    ensures { result ≡ list_all (λ b. b == 0) bytes.now }
-{
-    bytes.iter().all(|byte| *byte == 0)
-}
-
 /// The numbers that an index block has, for a content of `size` bytes. None exactly if the block is malformed: if anything but zeros
 /// follows the numbers.
-pub fn index_numbers(block: &[u8], size: u32) -> Option<ArrayVec<u16, MAX_FILE_BLOCKS>>
+pub fn index_numbers(block: &[u8], size: u32) -> Option<ArrayVec<u32, MAX_FILE_BLOCKS>>
     requires whole { length block.now ≡ BLOCK_LEN }
     requires few { size ≤ MAX_LARGE_FILE }
     ensures form { IfSome result (λ numbers. (numbers.items ≡ numbers_in (blocks_needed size) block.now) × (block.now ≡ index_bytes numbers.items)) }
@@ -273,12 +266,12 @@ pub fn index_numbers(block: &[u8], size: u32) -> Option<ArrayVec<u16, MAX_FILE_B
 }
 
 // Whether the home of each of these blocks is one of the image's.
-fn are_within(journal: &Journal, base: u32, blocks: &[u16]) -> bool
+fn are_within(journal: &Journal, base: u32, blocks: &[u32]) -> bool
     requires { base ≤ journal.now.layout.blocks }
     ensures { result ≡ are_within base journal.now.layout.blocks blocks.now }
 {
     let end = journal.blocks() - base;
-    blocks.iter().all(|n| u32::from(*n) < end)
+    blocks.iter().all(|n| *n < end)
 }
 
 /// Reads the bytes of a file, by the numbers of its slot.
@@ -286,7 +279,7 @@ pub fn read_content<D: Disk>(
     journal: &Journal,
     disk: &mut D,
     base: u32,
-    slot: &[u16],
+    slot: &[u32],
     size: u32,
     buf: &mut [u8],
 ) -> Result<(), Failed>
@@ -321,7 +314,7 @@ pub fn drop_large<D: Disk>(
     journal: &Journal,
     disk: &mut D,
     base: u32,
-    blocks: &[u16],
+    blocks: &[u32],
     size: u32,
 ) -> Result<(), Failed>
     requires few { size ≤ MAX_LARGE_FILE }

@@ -12,7 +12,7 @@ pub use buffer::Buffer;
 pub use content::{drop_file, put, read};
 pub use fault::PutFault;
 pub use large::{
-    Laid, are_zeros, drop_large, index_numbers, is_large, read_block, read_block_by, read_content,
+    Laid, drop_large, index_numbers, is_large, read_block, read_block_by, read_content,
     read_index_block,
 };
 pub use placing::place_file;

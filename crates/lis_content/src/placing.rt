@@ -8,7 +8,6 @@ ghost use Rattle.lis_ports.specs.Calls.{DiskFaultEnds, UsesDisk};
 ghost use Rattle.lis_journal.specs.Images.{JournalIsUsable};
 ghost use Rattle.lis_model.specs.State.{blocks_needed, blocks_taken};
 ghost use Rattle.lis_blockmap.specs.Bitmap.{free_count, is_taken};
-ghost use Rattle.lis_model.specs.Sets.{are_short};
 ghost use Rattle.lis_content.specs.Placing.{AreUnstaged, IsLaid, IsPlaced, IsTornOff, IsUnplaced, HasPlaceCause, TakesRow, RowOf, RowTorn, OnePlaced};
 ghost use Rattle.lis_content.specs.declared.fault.PutFault.TheVariants.{NoSpace};
 ghost use Rattle.lis_journal.specs.Record.{homes_start};
@@ -17,10 +16,10 @@ use crate::blocks::{fill, home};
 use crate::fault::PutFault;
 use crate::large::{blocks_taken, is_large};
 use arrayvec::ArrayVec;
-use byteorder::{ByteOrder, LittleEndian};
 use lis_blockmap::BlockMap;
+use lis_fields::write_shorts;
 use lis_journal::Journal;
-use lis_limits::{BLOCK_LEN, MAX_BLOCKS, MAX_FILE_BLOCKS, MAX_LARGE_FILE, NUMBERS, SLOT_BLOCKS};
+use lis_limits::{BLOCK_LEN, MAX_BLOCKS, MAX_FILE_BLOCKS, MAX_LARGE_FILE, SLOT_BLOCKS};
 use lis_ports::{Disk, Failed};
 
 // Bytes of the numbers of as many blocks as a content has.
@@ -29,7 +28,7 @@ const INDEX_BYTES: usize = 2 * MAX_FILE_BLOCKS;
 // Consecutive blocks.
 #[derive(Clone, Copy)]
 struct Row {
-    first: u16,
+    first: u32,
     count: u32,
 }
 
@@ -44,10 +43,10 @@ fn take_next(map: &mut BlockMap, n: u32) -> bool
     if n as usize >= map.len() {
         return false;
     }
-    if map.is_taken(n as u16) {
+    if map.is_taken(n) {
         return false;
     }
-    map.mark(n as u16);
+    map.mark(n);
     true
 }
 
@@ -57,14 +56,14 @@ fn take_row(map: &mut BlockMap, most: u32) -> Row
     requires most { (0 < most) × (most ≤ MAX_FILE_BLOCKS) }
     ensures row { TakesRow map.old map.new result.first result.count }
     ensures count { (0 < result.count) × (result.count ≤ most) }
-    ensures narrow { result.first + result.count ≤ NUMBERS }
+    ensures narrow { result.first + result.count ≤ MAX_BLOCKS }
 {
     let Some(first) = map.take() else {
         unreachable!()
     };
     let mut count = 1;
     while count < most {
-        if !take_next(map, u32::from(first) + count) {
+        if !take_next(map, first + count) {
             return Row { first, count };
         }
         count += 1;
@@ -91,7 +90,7 @@ fn place_row<D: Disk>(
     ensures ended { MatchResult result
         (λ row. RowOf base bytes.now map.old map.new journal.old journal.new (D.meaning disk.old) (D.meaning disk.new) row.first row.count)
         (λ _. RowTorn base map.old map.new journal.old journal.new (D.meaning disk.old) (D.meaning disk.new)) }
-    ensures narrow { IfOk result (λ row. row.first + row.count ≤ NUMBERS) }
+    ensures narrow { IfOk result (λ row. row.first + row.count ≤ MAX_BLOCKS) }
     ensures disk { UsesDisk (D.meaning disk.old) (D.meaning disk.new) result }
 {
     let row = take_row(map, (bytes.len() / BLOCK_LEN) as u32);
@@ -108,7 +107,7 @@ fn place_block<D: Disk>(
     disk: &mut D,
     base: u32,
     bytes: &[u8],
-) -> Result<u16, Failed>
+) -> Result<u32, Failed>
     requires few { length bytes.now ≤ BLOCK_LEN }
     requires some { 0 < free_count map.old }
     requires home { homes_start journal.old.layout ≤ base }
@@ -128,13 +127,13 @@ fn place_block<D: Disk>(
 }
 
 // Appends the numbers of a row to those that are there.
-fn push_row(taken: &mut ArrayVec<u16, MAX_FILE_BLOCKS>, row: Row)
+fn push_row(taken: &mut ArrayVec<u32, MAX_FILE_BLOCKS>, row: Row)
     requires room { length taken.old.items + row.count ≤ MAX_FILE_BLOCKS }
-    requires narrow { row.first + row.count ≤ NUMBERS }
+    requires narrow { row.first + row.count ≤ MAX_BLOCKS }
     ensures { taken.new.items ≡ taken.old.items ++ range_with_len row.first row.count }
 {
     for k in 0..row.count {
-        taken.push(row.first + k as u16);
+        taken.push(row.first + k);
     }
 }
 
@@ -145,7 +144,7 @@ fn place_bytes<D: Disk>(
     disk: &mut D,
     base: u32,
     bytes: &[u8],
-) -> Result<ArrayVec<u16, MAX_FILE_BLOCKS>, Failed>
+) -> Result<ArrayVec<u32, MAX_FILE_BLOCKS>, Failed>
     requires few { length bytes.now ≤ MAX_LARGE_FILE }
     requires enough { blocks_needed (length bytes.now) ≤ free_count map.old }
     requires home { homes_start journal.old.layout ≤ base }
@@ -181,8 +180,8 @@ fn place_index<D: Disk>(
     journal: &mut Journal,
     disk: &mut D,
     base: u32,
-    numbers: &[u16],
-) -> Result<u16, Failed>
+    numbers: &[u32],
+) -> Result<u32, Failed>
     requires count { length numbers.now ≤ MAX_FILE_BLOCKS }
     requires some { 0 < free_count map.old }
     requires home { homes_start journal.old.layout ≤ base }
@@ -194,17 +193,16 @@ fn place_index<D: Disk>(
         (λ n. OnePlaced base (flat_map (little_bytes 2) numbers.now) map.old map.new journal.old journal.new
         (D.meaning disk.old) (D.meaning disk.new) n)
         (λ _. RowTorn base map.old map.new journal.old journal.new (D.meaning disk.old) (D.meaning disk.new)) }
-    ensures short { IsTrue (are_short numbers.now) }
     ensures disk { UsesDisk (D.meaning disk.old) (D.meaning disk.new) result }
 {
     let mut held = [0; INDEX_BYTES];
     let (used, _) = held.split_at_mut(2 * numbers.len());
-    LittleEndian::write_u16_into(numbers, used);
+    write_shorts(numbers, used);
     place_block(map, journal, disk, base, used)
 }
 
 // The numbers, as a slot has them.
-fn slot_of(numbers: &[u16]) -> ArrayVec<u16, 16>
+fn slot_of(numbers: &[u32]) -> ArrayVec<u32, 16>
     requires { length numbers.now ≤ SLOT_BLOCKS }
     ensures { result.items ≡ numbers.now }
 {
@@ -220,7 +218,7 @@ fn place_all<D: Disk>(
     disk: &mut D,
     base: u32,
     bytes: &[u8],
-) -> Result<ArrayVec<u16, 16>, Failed>
+) -> Result<ArrayVec<u32, 16>, Failed>
     requires few { length bytes.now ≤ MAX_LARGE_FILE }
     requires enough { blocks_taken 2 (length bytes.now) ≤ free_count map.old }
     requires home { homes_start journal.old.layout ≤ base }
@@ -250,7 +248,7 @@ pub fn place_file<D: Disk>(
     disk: &mut D,
     base: u32,
     bytes: &[u8],
-) -> Result<ArrayVec<u16, 16>, PutFault>
+) -> Result<ArrayVec<u32, 16>, PutFault>
     requires few { length bytes.now ≤ MAX_LARGE_FILE }
     requires home { homes_start journal.old.layout ≤ base }
     requires within { base + length map.old ≤ journal.old.layout.blocks }

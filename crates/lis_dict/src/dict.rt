@@ -21,7 +21,7 @@ pub struct NoPropertyRoom;
 pub struct Dict {
     props: u32,
     // The numbers that have a word, in the order of their words.
-    order: Vec<u16>,
+    order: Vec<u32>,
     // The word that has it, at each number below `props`.
     holders: Vec<Option<Word>>,
 }
@@ -40,11 +40,11 @@ impl Model for Dict {
 }
 
 // The bytes of the word that has the number, or no bytes.
-pub(crate) fn bytes_at(holders: &[Option<Word>], number: u16) -> &[u8]
+pub(crate) fn bytes_at(holders: &[Option<Word>], number: u32) -> &[u8]
     ensures bytes { result.now ≡ word_in holders.now number }
     ensures word { IsTrue (is_some (slice_index_or holders.now number None)) → IsTrue (is_property result.now) }
 {
-    match holders.get(usize::from(number)) {
+    match holders.get(number as usize) {
         Some(Some(word)) => word.bytes(),
         _ => b"".as_slice(),
     }
@@ -59,7 +59,7 @@ fn first_free(holders: &[Option<Word>]) -> Option<usize>
 
 impl Dict {
     // The dictionary of these words by number, whose numbers stand in the order of their words.
-    pub(crate) fn of_parts(holders: Vec<Option<Word>>, order: Vec<u16>) -> Dict
+    pub(crate) fn of_parts(holders: Vec<Option<Word>>, order: Vec<u32>) -> Dict
         requires { IsSoundDict (length holders.items) holders.items order.items (vec_capacity order) }
         ensures { result ≡ dict_of (length holders.items) holders.items order.items }
     {
@@ -91,7 +91,7 @@ impl Dict {
     }
 
     /// The word's number.
-    pub fn id_of(&self, word: &Word) -> Option<u16>
+    pub fn id_of(&self, word: &Word) -> Option<u32>
         ensures { result ≡ number_of self.now word.now }
     {
         match self.search(word) {
@@ -101,15 +101,15 @@ impl Dict {
     }
 
     /// The word that has the number.
-    pub fn word_of(&self, number: u16) -> Option<Word>
+    pub fn word_of(&self, number: u32) -> Option<Word>
         ensures { result ≡ word_of self.now number }
     {
-        let holder = self.holders.get(usize::from(number))?.as_ref()?;
+        let holder = self.holders.get(number as usize)?.as_ref()?;
         Some(holder.copied())
     }
 
     /// The k-th word in byte order, and its number.
-    pub fn word_at(&self, k: u32) -> Option<(Word, u16)>
+    pub fn word_at(&self, k: u32) -> Option<(Word, u32)>
         ensures { result ≡ slice_get self.now.entries k }
     {
         let number = *self.order.get(k as usize)?;
@@ -125,13 +125,13 @@ impl Dict {
         ensures behind { (k : ℕ) (e : List ℕ × ℕ) → result.1 ≤ k → slice_get self.now.entries k ≡ Some e → test_of e.0 ≡ None }
     {
         let start = self.place_from(b"size<".as_slice());
-        // The other sign is `size>=`, and `?` comes behind `>`.
+        // The other sign is `size>=`, and `?` comes after `>`.
         let end = self.place_from(b"size?".as_slice());
         (start, end.max(start))
     }
 
     /// The word's number. A new word is first added with a free number.
-    pub fn add(&mut self, word: &Word) -> Result<u16, NoPropertyRoom>
+    pub fn add(&mut self, word: &Word) -> Result<u32, NoPropertyRoom>
         ensures { Adds self.old word.now self.new result }
     {
         if let Some(number) = self.id_of(word) {
@@ -145,7 +145,7 @@ impl Dict {
     }
 
     /// Removes the word, and frees its number.
-    pub fn remove(&mut self, word: &Word) -> Option<u16>
+    pub fn remove(&mut self, word: &Word) -> Option<u32>
         ensures number { result ≡ number_of self.old word.now }
         ensures gone { self.new ≡ without_word self.old word.now }
     {
@@ -153,12 +153,12 @@ impl Dict {
             return None;
         };
         let number = self.order.remove(place);
-        self.holders[usize::from(number)] = None;
+        self.holders[number as usize] = None;
         Some(number)
     }
 
-    /// Adds a new word with this free number.
-    pub fn place(&mut self, number: u16, word: &Word)
+    // Adds a new word with this free number.
+    fn place(&mut self, number: u32, word: &Word)
         requires below { number < self.old.props }
         requires free { word_of self.old number ≡ None }
         requires new { number_of self.old word.now ≡ None }
@@ -170,7 +170,7 @@ impl Dict {
         let Ok(()) = self.order.insert(place, number) else {
             unreachable!()
         };
-        self.holders[usize::from(number)] = Some(word.copied());
+        self.holders[number as usize] = Some(word.copied());
     }
 
     // The place of the word, or else the place that it would have.
@@ -210,13 +210,13 @@ impl Dict {
     }
 
     // The lowest number that no word has.
-    fn free_number(&self) -> Option<u16>
+    fn free_number(&self) -> Option<u32>
         ensures none { IfNone result (length self.now.entries ≡ self.now.props) }
         ensures below { IfSome result (λ n. n < self.now.props) }
         ensures free { IfSome result (λ n. word_of self.now n ≡ None) }
     {
         match first_free(&self.holders) {
-            Some(place) => Some(place as u16),
+            Some(place) => Some(place as u32),
             None => None,
         }
     }

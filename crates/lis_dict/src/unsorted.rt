@@ -16,7 +16,7 @@ pub struct Unsorted {
     // The word that has it, at each number.
     holders: Vec<Option<Word>>,
     // The numbers that have a word, in the order of the calls of `put`.
-    order: Vec<u16>,
+    order: Vec<u32>,
 }
 
 impl Model for Unsorted {
@@ -32,7 +32,7 @@ impl Model for Unsorted {
 }
 
 // Compares two numbers by their words, and by themselves if they have the same word.
-fn compare(holders: &[Option<Word>], number: u16, other: u16) -> Ordering
+fn compare(holders: &[Option<Word>], number: u32, other: u32) -> Ordering
     ensures { result ≡ number_cmp holders.now number other }
 {
     bytes_at(holders, number)
@@ -41,7 +41,7 @@ fn compare(holders: &[Option<Word>], number: u16, other: u16) -> Ordering
 }
 
 // Sorts numbers by their words, and numbers of the same word by themselves.
-fn put_in_order(holders: &[Option<Word>], order: &mut Vec<u16>)
+fn put_in_order(holders: &[Option<Word>], order: &mut Vec<u32>)
     requires { IsHeld holders.now order.old.items (vec_capacity order.old) }
     ensures held { IsHeld holders.now order.new.items (vec_capacity order.new) }
     ensures ordered { IsOrdered holders.now order.new.items }
@@ -50,7 +50,7 @@ fn put_in_order(holders: &[Option<Word>], order: &mut Vec<u16>)
 }
 
 // The lower of two numbers; the first one may be missing.
-fn lower(found: Option<u16>, number: u16) -> u16
+fn lower(found: Option<u32>, number: u32) -> u32
     ensures { result ≡ lower found number }
 {
     match found {
@@ -60,7 +60,7 @@ fn lower(found: Option<u16>, number: u16) -> u16
 }
 
 // The least number that has the same word as the number before it in the order.
-fn first_again(holders: &[Option<Word>], order: &[u16]) -> Option<u16>
+fn first_again(holders: &[Option<Word>], order: &[u32]) -> Option<u32>
     requires { (k : ℕ) → k < length order.now → IsTrue (is_some (slice_index_or holders.now (slice_index_or order.now k 0) None)) }
     ensures first { IsLeastRepeat holders.now order.now (length order.now) result }
     ensures forms { (k : ℕ) → k < length order.now → IsTrue (is_property (word_in holders.now (slice_index_or order.now k 0))) }
@@ -90,7 +90,7 @@ impl Unsorted {
     }
 
     /// Gives a number its word.
-    pub fn put(&mut self, number: u16, word: &Word)
+    pub fn put(&mut self, number: u32, word: &Word)
         requires below { number < length self.old }
         requires free { slice_index_or self.old number None ≡ None }
         ensures { self.new ≡ slice_set self.old number (Some word.now) }
@@ -98,7 +98,7 @@ impl Unsorted {
         let Ok(()) = self.order.push(number) else {
             unreachable!()
         };
-        self.holders[usize::from(number)] = Some(word.copied());
+        self.holders[number as usize] = Some(word.copied());
     }
 
     /// The dictionary of these words, or the first number whose word a lower number has too. It sorts once, and takes no memory.
@@ -109,7 +109,7 @@ impl Unsorted {
         let Unsorted { holders, mut order } = self;
         put_in_order(&holders, &mut order);
         match first_again(&holders, &order) {
-            Some(number) => Err(u32::from(number)),
+            Some(number) => Err(number),
             None => Ok(Dict::of_parts(holders, order)),
         }
     }

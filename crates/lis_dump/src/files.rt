@@ -21,7 +21,7 @@ use lis_words::Name;
 const MAX_ADDED: usize = 8;
 
 // Shows the file in the slot, which has this name.
-fn show_file<T: Station>(store: &Store, name: &Name, slot: u16, station: &mut T) -> Result<(), End>
+fn show_file<T: Station>(store: &Store, name: &Name, slot: u32, station: &mut T) -> Result<(), End>
     requires sound { IsSound store.now }
     requires slot { slot_of store.now.metadata.catalog name.now ≡ Some slot }
     requires usable { IsUsable store.now (T.meaning station.old) }

@@ -27,7 +27,7 @@ fn put_word<V: View>(view: &V, ext: &Ext, rows: &mut Rows, files: u32, row: u32,
     ensures { Pushes (V.seen view.now) rows.old rows.new files row (Has word.now) }
 {
     match view.id_of(word) {
-        Some(number) => ext.copy_row(u32::from(number), rows, row),
+        Some(number) => ext.copy_row(number, rows, row),
         None => rows.fill(row, false),
     }
 }
@@ -128,10 +128,10 @@ pub fn evaluate<V: View>(view: &V, scratch: &mut Scratch, place: &Place)
 }
 
 /// Whether the file in a slot was found.
-pub fn found(scratch: &Scratch, slot: u16) -> bool
+pub fn found(scratch: &Scratch, slot: u32) -> bool
     requires room { HasRoom scratch.now scratch.now.limits }
     requires slot { slot < scratch.now.limits.files }
     ensures { result ≡ get scratch.now.files 0 slot }
 {
-    scratch.files.get(0, u32::from(slot))
+    scratch.files.get(0, slot)
 }

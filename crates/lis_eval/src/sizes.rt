@@ -10,7 +10,7 @@ use crate::view::View;
 use lis_bits::Rows;
 
 // Sets the bit of a file's slot if the file has at least `least` bytes.
-fn put_size<V: View>(view: &V, rows: &mut Rows, files: u32, row: u32, slot: u16, least: u64)
+fn put_size<V: View>(view: &V, rows: &mut Rows, files: u32, row: u32, slot: u32, least: u64)
     requires room { CanMark (V.seen view.now) rows.old files }
     requires row { row < 65 }
     requires slot { slot < files }
@@ -19,7 +19,7 @@ fn put_size<V: View>(view: &V, rows: &mut Rows, files: u32, row: u32, slot: u16,
         → SetsBits rows.old rows.new 65 files row (λ bit. get rows.old row bit || ((slot == bit) && nat_le least f.entry.size)) }
 {
     if view.size_of(slot) >= least {
-        rows.put(row, u32::from(slot), true);
+        rows.put(row, slot, true);
     }
 }
 

@@ -18,23 +18,23 @@ pub trait View {
     ghost rows: { Self → ext.Ext };
 
     /// The number of a word.
-    fn id_of(&self, word: &Word) -> Option<u16>
+    fn id_of(&self, word: &Word) -> Option<u32>
         ensures { result ≡ number_of (seen self.now) word.now };
 
     /// The k-th word in byte order, and its number.
-    fn word_at(&self, k: u32) -> Option<(Word, u16)>
+    fn word_at(&self, k: u32) -> Option<(Word, u32)>
         ensures { result ≡ slice_get (seen self.now).words k };
 
     /// The slot of the file that has a name.
-    fn slot_of(&self, name: &Name) -> Option<u16>
+    fn slot_of(&self, name: &Name) -> Option<u32>
         ensures { result ≡ slot_of (seen self.now) name.now };
 
     /// The k-th file in the order of names: its name, and its slot.
-    fn file_at(&self, k: u32) -> Option<(Name, u16)>
+    fn file_at(&self, k: u32) -> Option<(Name, u32)>
         ensures { result ≡ option_map name_and_slot (slice_get (seen self.now).files k) };
 
     /// How many bytes the file in a slot has.
-    fn size_of(&self, slot: u16) -> u64
+    fn size_of(&self, slot: u32) -> u64
         requires { IsSome (file_in (seen self.now) slot) }
         ensures { IsSomeAnd (file_in (seen self.now) slot) (λ (f : Placed). result ≡ f.entry.size) };
 

@@ -25,7 +25,7 @@ type Row = (
     &'static [u8],
     &'static [u8],
     &'static [u8],
-    &'static [u16],
+    &'static [u32],
 );
 
 /// The words of the numbers 0 to 3, then what a sort of them answers: the numbers in the order of the words, or one number if its word
@@ -49,7 +49,7 @@ fn words_are_sorted_once(rt: HostRuntime) -> Result<(), Fail> {
         unsorted.put(0, &word(&rt, zero));
         unsorted.put(3, &word(&rt, three));
         unsorted.put(1, &word(&rt, one));
-        let mut found: Vec<u16> = Vec::new(rt.alloc());
+        let mut found: Vec<u32> = Vec::new(rt.alloc());
         match unsorted.sort() {
             Ok(dict) => {
                 for k in 0..dict.len() {
@@ -57,7 +57,7 @@ fn words_are_sorted_once(rt: HostRuntime) -> Result<(), Fail> {
                     found.push(number)?;
                 }
             }
-            Err(again) => found.push(again as u16)?,
+            Err(again) => found.push(again)?,
         }
         assert!(rt; found.as_slice() == *numbers, "{numbers:?}");
     }

@@ -63,7 +63,7 @@ impl Ext {
 
     /// Replaces a file's set, and marks the numbers that are in one of the old and the new set and not in both. Each set was in range, as
     /// always.
-    pub fn set_file(&mut self, file: u32, new: &[u16])
+    pub fn set_file(&mut self, file: u32, new: &[u32])
         requires file { file < length self.old.sets }
         requires few { length new.now ≤ MAX_DESCRIPTION }
         requires new_rises { IsStrictlyIncreasing new.now }
@@ -110,7 +110,7 @@ impl Ext {
     }
 
     /// The numbers of a file, in rising order. The contract also says what each `Ext` keeps.
-    pub fn numbers(&self, file: u32) -> &[u16]
+    pub fn numbers(&self, file: u32) -> &[u32]
         requires { file < length self.now.sets }
         ensures numbers { result.now ≡ set_of self.now file }
         ensures few { length result.now ≤ MAX_DESCRIPTION }

@@ -9,7 +9,7 @@ use std::marker::Model;
 pub(crate) struct Lists {
     // The numbers of list i are the first ones from index MAX_DESCRIPTION * i on. The vector is only as long as some list has had numbers,
     // so memory beyond is not touched.
-    numbers: Vec<u16>,
+    numbers: Vec<u32>,
     // How many numbers each list has.
     lengths: Vec<u32>,
 }
@@ -38,7 +38,7 @@ impl Lists {
     }
 
     /// The numbers of a list.
-    pub(crate) fn numbers(&self, list: u32) -> &[u16]
+    pub(crate) fn numbers(&self, list: u32) -> &[u32]
         requires { list < length self.now }
         ensures numbers { result.now ≡ slice_index_or self.now list [] }
         ensures few { length result.now ≤ MAX_DESCRIPTION }
@@ -52,7 +52,7 @@ impl Lists {
     }
 
     /// Replaces a list.
-    pub(crate) fn set(&mut self, list: u32, numbers: &[u16])
+    pub(crate) fn set(&mut self, list: u32, numbers: &[u32])
         requires list { list < length self.old }
         requires few { length numbers.now ≤ MAX_DESCRIPTION }
         ensures { self.new ≡ slice_set self.old list numbers.now }
@@ -65,7 +65,7 @@ impl Lists {
 }
 
 // Adds zeros up to `len` numbers.
-fn fill_to(numbers: &mut Vec<u16>, len: usize)
+fn fill_to(numbers: &mut Vec<u32>, len: usize)
     requires { len ≤ vec_capacity numbers.old }
     ensures same { (k : ℕ) → slice_index numbers.new.items k ≡ slice_index numbers.old.items k }
     ensures long { len ≤ length numbers.new.items }
@@ -78,7 +78,7 @@ fn fill_to(numbers: &mut Vec<u16>, len: usize)
 }
 
 // Writes numbers at the indexes from `start` on.
-fn write(places: &mut [u16], start: usize, numbers: &[u16])
+fn write(places: &mut [u32], start: usize, numbers: &[u32])
     requires { start + length numbers.now ≤ length places.old }
     ensures written { (k : ℕ) → k < length numbers.now
         → slice_index places.new (start + k) ≡ slice_index numbers.now k }

@@ -7,7 +7,7 @@ ghost use Rattle.lis_ext.specs.Inside.{CountsUp, Touches, PutsBits, has_alone};
 use lis_bits::Rows;
 
 // Whether the number is one of these, which rise.
-fn is_among(numbers: &[u16], number: u16) -> bool
+fn is_among(numbers: &[u32], number: u32) -> bool
     requires { IsStrictlyIncreasing numbers.now }
     ensures { result ≡ has_number numbers.now number }
 {
@@ -19,8 +19,8 @@ pub(crate) fn gain(
     counts: &mut [u32],
     marks: &mut Rows,
     props: u32,
-    numbers: &[u16],
-    others: &[u16],
+    numbers: &[u32],
+    others: &[u32],
 )
     requires room { length counts.old ≡ props }
     requires marks_shape { HasShape marks.old 1 props }
@@ -34,7 +34,7 @@ pub(crate) fn gain(
     for number in numbers {
         if !is_among(others, *number) {
             counts[*number as usize] += 1;
-            marks.put(0, u32::from(*number), true);
+            marks.put(0, *number, true);
         }
     }
 }
@@ -44,8 +44,8 @@ pub(crate) fn lose(
     counts: &mut [u32],
     marks: &mut Rows,
     props: u32,
-    numbers: &[u16],
-    others: &[u16],
+    numbers: &[u32],
+    others: &[u32],
 )
     requires room { length counts.old ≡ props }
     requires marks_shape { HasShape marks.old 1 props }
@@ -59,7 +59,7 @@ pub(crate) fn lose(
     for number in numbers {
         if !is_among(others, *number) {
             counts[*number as usize] -= 1;
-            marks.put(0, u32::from(*number), true);
+            marks.put(0, *number, true);
         }
     }
 }
@@ -70,8 +70,8 @@ pub(crate) fn put_bits(
     props: u32,
     files: u32,
     file: u32,
-    numbers: &[u16],
-    others: &[u16],
+    numbers: &[u32],
+    others: &[u32],
     value: bool,
 )
     requires shape { HasShape rows.old props files }
@@ -83,13 +83,13 @@ pub(crate) fn put_bits(
 {
     for number in numbers {
         if !is_among(others, *number) {
-            rows.put(u32::from(*number), file, value);
+            rows.put(*number, file, value);
         }
     }
 }
 
 // Adds one to the count of each of these numbers.
-pub(crate) fn count_all(counts: &mut [u32], numbers: &[u16])
+pub(crate) fn count_all(counts: &mut [u32], numbers: &[u32])
     requires in_counts { All (λ number. number < length counts.old) numbers.now }
     requires rise { IsStrictlyIncreasing numbers.now }
     requires fit { (p : ℕ) → p < length counts.old → slice_index counts.old p + 1 < 2 ^ 32 }

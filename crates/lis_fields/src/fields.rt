@@ -6,6 +6,7 @@ ghost use Rattle.byteorder.specs.Endian.{little_bytes};
 ghost use Rattle.lis_fields.specs.Layouts.{text_bytes, zeros, numbers};
 ghost use Rattle.lis_model.specs.Sets.{are_short};
 
+use crate::shorts::{read_shorts, write_shorts};
 use arrayvec::ArrayVec;
 use byteorder::{ByteOrder, LittleEndian};
 use lis_limits::MAX_WORD;
@@ -83,7 +84,7 @@ pub fn write_text(text: &[u8], field: &mut [u8])
     write_zeros(padding);
 }
 
-fn read_shorts(bytes: &[u8], count: usize) -> ArrayVec<u16, 16>
+fn read_list(bytes: &[u8], count: usize) -> ArrayVec<u32, 16>
     requires count { count ≤ MAX_NUMBERS }
     requires len { length bytes.now ≡ 2 * count }
     ensures len { length result.items ≡ count }
@@ -92,14 +93,14 @@ fn read_shorts(bytes: &[u8], count: usize) -> ArrayVec<u16, 16>
 {
     let mut held = [0; MAX_NUMBERS];
     let (used, _) = held.split_at_mut(count);
-    LittleEndian::read_u16_into(bytes, used);
+    read_shorts(bytes, used);
     let mut numbers = ArrayVec::new();
     numbers.try_extend_from_slice(used).unwrap();
     numbers
 }
 
 /// The `count` numbers of a field of 32 bytes. None exactly if the field spells no such numbers.
-pub fn read_numbers(field: &[u8], count: usize) -> Option<ArrayVec<u16, 16>>
+pub fn read_numbers(field: &[u8], count: usize) -> Option<ArrayVec<u32, 16>>
     requires { length field.now ≡ 32 }
     ensures spelled { IfSome result (λ found.
         (length found.items ≡ count) × (count ≤ MAX_NUMBERS) × IsTrue (are_short found.items) × (field.now ≡ numbers found.items)) }
@@ -113,17 +114,17 @@ pub fn read_numbers(field: &[u8], count: usize) -> Option<ArrayVec<u16, 16>>
     if !are_zeros(padding) {
         return None;
     }
-    Some(read_shorts(start, count))
+    Some(read_list(start, count))
 }
 
 /// Writes numbers into a field of 32 bytes.
 #[tactic(auto, unfolding(crate::specs::Layouts::zeros))]
-pub fn write_numbers(list: &[u16], field: &mut [u8])
+pub fn write_numbers(list: &[u32], field: &mut [u8])
     requires len { length field.old ≡ 32 }
     requires few { length list.now ≤ MAX_NUMBERS }
     ensures { field.new ≡ numbers list.now }
 {
     let (start, padding) = field.split_at_mut(2 * list.len());
-    LittleEndian::write_u16_into(list, start);
+    write_shorts(list, start);
     write_zeros(padding);
 }

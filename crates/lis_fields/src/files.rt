@@ -45,26 +45,26 @@ fn slot_blocks(version: u32, size: u32) -> u32
     needed
 }
 
-fn rise(numbers: &[u16]) -> bool
+fn rise(numbers: &[u32]) -> bool
     ensures { result ≡ is_rising nat_cmp numbers.now }
 {
     let mut floor = 0;
     for number in numbers {
-        if u32::from(*number) < floor {
+        if u64::from(*number) < floor {
             return false;
         }
-        floor = u32::from(*number) + 1;
+        floor = u64::from(*number) + 1;
     }
     true
 }
 
-fn is_among(number: u16, others: &[u16]) -> bool
+fn is_among(number: u32, others: &[u32]) -> bool
     ensures { result ≡ list_any (λ other. other == number) others.now }
 {
     others.iter().any(|other| *other == number)
 }
 
-fn are_distinct(numbers: &[u16]) -> bool
+fn are_distinct(numbers: &[u32]) -> bool
     ensures { result ≡ are_distinct numbers.now }
 {
     for (k, number) in numbers.iter().enumerate() {
@@ -97,7 +97,7 @@ fn read_start(bytes: &[u8]) -> Option<(Name, u8)>
 }
 
 /// The slot numbers of the assigned words.
-fn read_tags(field: &[u8], count: usize) -> Option<ArrayVec<u16, 16>>
+fn read_tags(field: &[u8], count: usize) -> Option<ArrayVec<u32, 16>>
     requires { length field.now ≡ 32 }
     ensures spelled { IfSome result (λ found.
         (length found.items ≡ count) × IsTrue (are_tags found.items) × (field.now ≡ numbers found.items)) }
@@ -112,7 +112,7 @@ fn read_tags(field: &[u8], count: usize) -> Option<ArrayVec<u16, 16>>
 }
 
 /// The block numbers of a file of that version and size.
-fn read_blocks(field: &[u8], version: u32, size: u32) -> Option<ArrayVec<u16, 16>>
+fn read_blocks(field: &[u8], version: u32, size: u32) -> Option<ArrayVec<u32, 16>>
     requires len { length field.now ≡ 32 }
     requires short { size ≤ file_limit version }
     ensures spelled { IfSome result (λ found. IsTrue (are_blocks version size found.items) × (field.now ≡ numbers found.items)) }

@@ -40,10 +40,10 @@ pub struct FileRec {
     /// How many bytes the file has.
     pub size: u32,
     /// The slot numbers of the words that the file was assigned.
-    pub tags: ArrayVec<u16, 16>,
+    pub tags: ArrayVec<u32, 16>,
     /// The numbers of the data blocks of its bytes, in order. If they are more than 16, which only version 2 has, this is the number of the
     /// index block alone, which has theirs.
-    pub blocks: ArrayVec<u16, 16>,
+    pub blocks: ArrayVec<u32, 16>,
 }
 
 impl Model for FileRec {

@@ -64,7 +64,7 @@ pub(crate) fn mark_increments<V: View>(
         match view.word_at(k) {
             None => return,
             Some((_, number)) => {
-                mark_increment(view, candidates, increments, search, u32::from(number));
+                mark_increment(view, candidates, increments, search, number);
             }
         }
     }

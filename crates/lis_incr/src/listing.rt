@@ -61,7 +61,7 @@ fn next_word<V: View>(view: &V, marks: &Rows, start: u32, props: u32) -> Option<
         match view.word_at(k) {
             None => return None,
             Some((word, number)) => {
-                if marks.get(0, u32::from(number)) {
+                if marks.get(0, number) {
                     return Some((word, k + 1));
                 }
             }
@@ -83,7 +83,7 @@ fn next_file<V: View>(view: &V, marks: &Rows, start: u32, files: u32) -> Option<
         match view.file_at(k) {
             None => return None,
             Some((name, slot)) => {
-                if marks.get(0, u32::from(slot)) {
+                if marks.get(0, slot) {
                     return Some((name, k + 1));
                 }
             }

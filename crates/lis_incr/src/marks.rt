@@ -62,19 +62,19 @@ pub(crate) fn mark_candidates<V: View>(
     for k in 0..props {
         match view.word_at(k) {
             None => return,
-            Some((_, number)) => mark_number(counts, many, candidates, u32::from(number)),
+            Some((_, number)) => mark_number(counts, many, candidates, number),
         }
     }
 }
 
 // Whether one of the numbers is marked.
-fn has_marked(numbers: &[u16], marks: &Rows) -> bool
+fn has_marked(numbers: &[u32], marks: &Rows) -> bool
     requires row { 0 < length marks.now.rows }
     requires in_range { All (λ number. number < marks.now.bits) numbers.now }
     ensures { result ≡ list_any (get marks.now 0) numbers.now }
 {
     for number in numbers {
-        if marks.get(0, u32::from(*number)) {
+        if marks.get(0, *number) {
             return true;
         }
     }
@@ -167,9 +167,7 @@ pub(crate) fn mark_all_own<V: View>(
     for k in 0..props {
         match view.word_at(k) {
             None => return,
-            Some((_, number)) => {
-                mark_own(view, counts, many, candidates, slot, u32::from(number))
-            }
+            Some((_, number)) => { mark_own(view, counts, many, candidates, slot, number) }
         }
     }
 }

@@ -61,7 +61,6 @@ pub fn make_route<V: View>(view: &V, scratch: &mut Scratch, place: &Place, name:
     let Some(slot) = view.slot_of(name) else {
         return false;
     };
-    let slot = u32::from(slot);
     if !scratch.files.get(0, slot) {
         return false;
     }

@@ -30,7 +30,7 @@ pub(crate) fn count_found<V: View>(view: &V, found: &Rows, files: u32) -> u32
         match view.file_at(k) {
             None => return count,
             Some((_, slot)) => {
-                if found.get(0, u32::from(slot)) {
+                if found.get(0, slot) {
                     count += 1;
                 }
             }
@@ -66,7 +66,6 @@ fn first_step<V: View>(view: &V, scratch: &mut Scratch, slot: u32) -> Option<(u3
         match view.word_at(k) {
             None => return None,
             Some((_, number)) => {
-                let number = u32::from(number);
                 if is_top(view, candidates, search, number) {
                     return Some((k, number));
                 }

@@ -7,7 +7,6 @@ ghost use Rattle.std.specs.Option.{option_map};
 ghost use Rattle.lis_dict.specs.Dict.{word_of};
 ghost use Rattle.lis_model.specs.State.{pair_cmp};
 ghost use Rattle.lis_kept.specs.Behind.{rights_of, is_behind, is_before, right_by};
-ghost use Rattle.lis_kept.specs.Inside.{IsShort};
 ghost use Rattle.lis_kept.specs.Telling.{pairs_told, axioms_of};
 
 use crate::metadata::Metadata;
@@ -36,25 +35,20 @@ fn is_before(word: &Word, next: &Option<Word>) -> bool
 }
 
 // The right word of an axiom slot, if the number is that of its left word.
-fn right_of(dict: &Dict, slot: AxiomSlot, left: u16) -> Option<Word>
-    requires { IsShort dict.now }
+fn right_of(dict: &Dict, slot: AxiomSlot, left: u32) -> Option<Word>
     ensures { result ≡ right_by dict.now left slot }
 {
     let AxiomSlot::Pair(from, to) = slot else {
         return None;
     };
-    if from != u32::from(left) {
+    if from != left {
         return None;
     }
-    let Ok(to) = u16::try_from(to) else {
-        return None;
-    };
     dict.word_of(to)
 }
 
 // Of the right words of axioms whose left word has this number, the first after the last one.
-fn first_right(dict: &Dict, axioms: &[AxiomSlot], left: u16, last: Option<&Word>) -> Option<Word>
-    requires { IsShort dict.now }
+fn first_right(dict: &Dict, axioms: &[AxiomSlot], left: u32, last: Option<&Word>) -> Option<Word>
     ensures { (word : List ℕ) → word_of dict.now left ≡ Some word
         → result ≡ find (is_behind (option_map (λ w. w.now) last.entry)) (rights_of (fold (insert_key pair_cmp) [] (pairs_told dict.now axioms.now)) word) }
 {

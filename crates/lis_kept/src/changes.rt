@@ -43,21 +43,18 @@ fn mark_rows(ext: &Ext, limits: &Limits, marks: &mut Flags)
 }
 
 // Marks the block of a file slot.
-fn mark_file(marks: &mut Flags, limits: &Limits, slot: u16)
+fn mark_file(marks: &mut Flags, limits: &Limits, slot: u32)
     requires range { IsTrue (are_in_range limits.now) }
     requires slot { slot < limits.now.files }
     requires long { data_start limits.now ≤ length marks.old }
     ensures { marks.new ≡ slice_set marks.old (block_of limits.now FileArea slot) true }
 {
-    marks.put(
-        files_start(limits) + u32::from(slot / FILES_PER_BLOCK),
-        true,
-    );
+    marks.put(files_start(limits) + slot / FILES_PER_BLOCK, true);
 }
 
 impl Metadata {
     /// Replaces the numbers of a file slot, which are those of its file's description.
-    pub fn describe(&mut self, slot: u16, new: &[u16])
+    pub fn describe(&mut self, slot: u32, new: &[u32])
         requires slot { slot < self.old.limits.files }
         requires few { length new.now ≤ MAX_DESCRIPTION }
         requires rising { IsStrictlyIncreasing new.now }
@@ -65,13 +62,13 @@ impl Metadata {
         ensures describes { Describes slot new.now self.old self.new }
         ensures sound { AreSound self.new }
     {
-        self.ext.set_file(u32::from(slot), new);
+        self.ext.set_file(slot, new);
         mark_rows(&self.ext, &self.limits, &mut self.marks);
         self.ext.settle();
     }
 
     /// Removes the record from its slot, and returns it. Its blocks stay taken.
-    pub fn drop_record(&mut self, slot: u16) -> FileRec
+    pub fn drop_record(&mut self, slot: u32) -> FileRec
         requires there { IsSome (rec_at self.old.catalog slot) }
         ensures drops { Drops slot result self.old self.new }
         ensures sound { AreSound self.new }
@@ -84,7 +81,7 @@ impl Metadata {
     }
 
     /// Files a record under a new name in this free slot. Its blocks are taken already, and the slot has its numbers.
-    pub fn place_record(&mut self, slot: u16, rec: FileRec)
+    pub fn place_record(&mut self, slot: u32, rec: FileRec)
         requires below { slot < self.old.limits.files }
         requires free { rec_at self.old.catalog slot ≡ None }
         requires described { (n : ℕ) → has self.old.ext n slot ≡ true → IsSome (word_of self.old.dict n) }

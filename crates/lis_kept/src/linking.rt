@@ -89,14 +89,14 @@ impl Metadata {
     }
 
     /// Whether an axiom leads from the word of one number to that of another.
-    pub fn has_axiom(&self, left: u16, right: u16) -> bool
+    pub fn has_axiom(&self, left: u32, right: u32) -> bool
         ensures { result ≡ has_pair self.now.axioms left right }
     {
-        has_pair(self.axioms.as_slice(), u32::from(left), u32::from(right))
+        has_pair(self.axioms.as_slice(), left, right)
     }
 
     /// Adds the axiom that leads from the word of one number to that of another.
-    pub fn link(&mut self, left: u16, right: u16)
+    pub fn link(&mut self, left: u32, right: u32)
         requires { MayLink left right self.old }
         ensures links { Links left right self.old self.new }
         ensures sound { AreSound self.new }
@@ -104,7 +104,6 @@ impl Metadata {
         let Some(slot) = free_slot(self.axioms.as_slice()) else {
             unreachable!()
         };
-        let (left, right) = (u32::from(left), u32::from(right));
         self.axioms[slot] = AxiomSlot::Pair(left, right);
         let Ok(()) = self.taxonomy.add(left, right) else {
             unreachable!()
@@ -113,12 +112,11 @@ impl Metadata {
     }
 
     /// Removes the axiom that leads from the word of one number to that of another.
-    pub fn unlink(&mut self, left: u16, right: u16)
+    pub fn unlink(&mut self, left: u32, right: u32)
         requires { MayUnlink left right self.old }
         ensures unlinks { Unlinks left right self.old self.new }
         ensures sound { AreSound self.new }
     {
-        let (left, right) = (u32::from(left), u32::from(right));
         let Some(slot) = slot_of_pair(self.axioms.as_slice(), left, right) else {
             unreachable!()
         };

@@ -129,7 +129,7 @@ impl Metadata {
     {
         let axioms = axioms_start(&self.limits);
         if n < axioms {
-            let first = PROPERTIES_PER_BLOCK * (n - PROPERTIES_START) as u16;
+            let first = PROPERTIES_PER_BLOCK * (n - PROPERTIES_START);
             write_properties(&self.dict, &self.declared, first, block);
             return;
         }
@@ -141,7 +141,7 @@ impl Metadata {
         }
         let rows = rows_start(&self.limits);
         if n < rows {
-            let first = FILES_PER_BLOCK * (n - files) as u16;
+            let first = FILES_PER_BLOCK * (n - files);
             write_files(&self.catalog, self.limits.version, first, block);
             return;
         }

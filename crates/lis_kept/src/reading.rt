@@ -21,7 +21,7 @@ use lis_taxonomy::Taxonomy;
 use lis_words::{Name, Word};
 
 // How many of these blocks are taken.
-fn count_taken(map: &BlockMap, blocks: &[u16]) -> usize
+fn count_taken(map: &BlockMap, blocks: &[u32]) -> usize
     ensures { result ≡ length (filter (is_taken map.now) blocks.now) }
 {
     blocks.iter().filter(|n| map.is_taken(**n)).count()
@@ -36,21 +36,21 @@ impl Metadata {
     }
 
     /// The number of a word.
-    pub fn number_of(&self, word: &Word) -> Option<u16>
+    pub fn number_of(&self, word: &Word) -> Option<u32>
         ensures { result ≡ number_of self.now.dict word.now }
     {
         self.dict.id_of(word)
     }
 
     /// The word that has a number.
-    pub fn word_of(&self, number: u16) -> Option<Word>
+    pub fn word_of(&self, number: u32) -> Option<Word>
         ensures { result ≡ word_of self.now.dict number }
     {
         self.dict.word_of(number)
     }
 
     /// The k-th word in byte order, and its number.
-    pub fn word_at(&self, k: u32) -> Option<(Word, u16)>
+    pub fn word_at(&self, k: u32) -> Option<(Word, u32)>
         ensures { result ≡ slice_get self.now.dict.entries k }
     {
         self.dict.word_at(k)
@@ -72,7 +72,7 @@ impl Metadata {
     {
         match self.dict.id_of(word) {
             None => false,
-            Some(number) => self.declared.get(u32::from(number)),
+            Some(number) => self.declared.get(number),
         }
     }
 
@@ -84,7 +84,7 @@ impl Metadata {
     }
 
     /// The slot of the file that has a name.
-    pub fn slot_of(&self, name: &Name) -> Option<u16>
+    pub fn slot_of(&self, name: &Name) -> Option<u32>
         ensures slot { result ≡ slot_of self.now.catalog name.now }
         ensures name { IsTrue (is_file_name name.now) }
     {
@@ -92,14 +92,14 @@ impl Metadata {
     }
 
     /// The k-th file in the order of names: its name, and its slot.
-    pub fn file_at(&self, k: u32) -> Option<(Name, u16)>
+    pub fn file_at(&self, k: u32) -> Option<(Name, u32)>
         ensures { result ≡ option_map (λ (f : Filed). (f.rec.name, f.slot)) (slice_get self.now.catalog.entries k) }
     {
         self.catalog.file_at(k)
     }
 
     /// The record of the file in a slot.
-    pub fn rec(&self, slot: u16) -> Option<&FileRec>
+    pub fn rec(&self, slot: u32) -> Option<&FileRec>
         ensures { MatchOption result (rec_at self.now.catalog slot ≡ None) (λ rec. rec_at self.now.catalog slot ≡ Some rec.now) }
     {
         self.catalog.rec(slot)
@@ -113,7 +113,7 @@ impl Metadata {
     }
 
     /// How many of the blocks that the slot of a file numbers are taken: all of them, if the disk keeps the image that memory describes.
-    pub fn taken_blocks(&self, slot: u16) -> usize
+    pub fn taken_blocks(&self, slot: u32) -> usize
         requires { IsSome (rec_at self.now.catalog slot) }
         ensures taken { (rec : FileRecord) → rec_at self.now.catalog slot ≡ Some rec → result ≡ length (filter (is_taken self.now.taken) rec.blocks) }
         ensures few { result ≤ SLOT_BLOCKS }
@@ -132,13 +132,13 @@ impl Metadata {
     }
 
     /// The numbers of the description of the file in a slot, in rising order.
-    pub fn numbers(&self, slot: u16) -> &[u16]
+    pub fn numbers(&self, slot: u32) -> &[u32]
         requires { IsSome (rec_at self.now.catalog slot) }
         ensures numbers { result.now ≡ set_of self.now.ext slot }
         ensures few { length result.now ≤ MAX_DESCRIPTION }
         ensures rising { IsStrictlyIncreasing result.now }
     {
-        self.ext.numbers(u32::from(slot))
+        self.ext.numbers(slot)
     }
 
     /// The links between the words that have numbers.

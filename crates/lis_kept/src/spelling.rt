@@ -16,21 +16,21 @@ use lis_limits::{
 };
 
 // The property slot of a number.
-fn property_slot(dict: &Dict, declared: &Flags, number: u16) -> PropSlot
+fn property_slot(dict: &Dict, declared: &Flags, number: u32) -> PropSlot
     requires { number < length declared.now }
     ensures { result ≡ property_at dict.now declared.now number }
 {
     let Some(word) = dict.word_of(number) else {
         return PropSlot::Free;
     };
-    if declared.get(u32::from(number)) {
+    if declared.get(number) {
         return PropSlot::Declared(word);
     }
     PropSlot::Known(word)
 }
 
 /// Writes the property slots from a number on, as many as a block has.
-pub fn write_properties(dict: &Dict, declared: &Flags, first: u16, block: &mut [u8])
+pub fn write_properties(dict: &Dict, declared: &Flags, first: u32, block: &mut [u8])
     requires forms { (n : ℕ) → IsTrue (is_prop (property_at dict.now declared.now n)) }
     requires within { first + PROPERTIES_PER_BLOCK ≤ length declared.now }
     requires few { length declared.now ≤ MAX_PROPS }
@@ -38,7 +38,7 @@ pub fn write_properties(dict: &Dict, declared: &Flags, first: u16, block: &mut [
     ensures { (k : ℕ) → k < PROPERTIES_PER_BLOCK → part (PROP_LEN * k) PROP_LEN block.new ≡ prop_bytes (property_at dict.now declared.now (first + k)) }
 {
     for k in 0..PROPERTIES_PER_BLOCK {
-        let at = PROP_LEN * usize::from(k);
+        let at = PROP_LEN * k as usize;
         let slot = property_slot(dict, declared, first + k);
         write_prop(&slot, &mut block[at..at + PROP_LEN]);
     }
@@ -68,7 +68,7 @@ pub fn write_axioms(axioms: &[AxiomSlot], first: usize, block: &mut [u8])
     }
 }
 
-fn copied_numbers(numbers: &ArrayVec<u16, 16>) -> ArrayVec<u16, 16>
+fn copied_numbers(numbers: &ArrayVec<u32, 16>) -> ArrayVec<u32, 16>
     ensures { result.items ≡ numbers.now.items }
 {
     let mut copied = ArrayVec::new();
@@ -89,7 +89,7 @@ fn copied_record(rec: &FileRec) -> FileRec
 }
 
 // The file slot of a number.
-fn file_slot(catalog: &Catalog, number: u16) -> FileSlot
+fn file_slot(catalog: &Catalog, number: u32) -> FileSlot
     ensures { result ≡ record_at catalog.now number }
 {
     match catalog.rec(number) {
@@ -99,14 +99,14 @@ fn file_slot(catalog: &Catalog, number: u16) -> FileSlot
 }
 
 /// Writes the file slots from a number on, as many as a block has.
-pub fn write_files(catalog: &Catalog, version: u32, first: u16, block: &mut [u8])
+pub fn write_files(catalog: &Catalog, version: u32, first: u32, block: &mut [u8])
     requires records { (n : ℕ) → IsTrue (is_file version (record_at catalog.now n)) }
     requires few { first ≤ MAX_FILES }
     requires whole { length block.old ≡ BLOCK_LEN }
     ensures { (k : ℕ) → k < FILES_PER_BLOCK → part (FILE_LEN * k) FILE_LEN block.new ≡ file_bytes (record_at catalog.now (first + k)) }
 {
     for k in 0..FILES_PER_BLOCK {
-        let at = FILE_LEN * usize::from(k);
+        let at = FILE_LEN * k as usize;
         let slot = file_slot(catalog, first + k);
         write_file(&slot, &mut block[at..at + FILE_LEN], version);
     }

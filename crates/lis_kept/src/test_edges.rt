@@ -10,7 +10,7 @@ ghost use Rattle.lis_kept.specs.TestEdges.{declared_test, is_past, IsNeighbour, 
 
 use lis_bits::Flags;
 use lis_dict::Dict;
-use lis_limits::{MAX_PROPS, NUMBERS};
+use lis_limits::MAX_PROPS;
 use lis_taxonomy::Taxonomy;
 use lis_words::{Test, test_of};
 
@@ -50,20 +50,18 @@ fn is_past(side: Side, q: Test, p: Test) -> bool
 // The test that the word of a number is, if the word is declared.
 fn declared_test(dict: &Dict, declared: &Flags, number: u32) -> Option<Test>
     requires long { number < length declared.now }
-    requires small { number < NUMBERS }
     ensures { result ≡ declared_test dict.now declared.now number }
 {
     if !declared.get(number) {
         return None;
     }
-    let word = dict.word_of(number as u16)?;
+    let word = dict.word_of(number)?;
     test_of(&word)
 }
 
 // The declared test of a number, if it is on that side of a test.
 fn test_past(dict: &Dict, declared: &Flags, number: u32, test: Test, side: Side) -> Option<Test>
     requires long { number < length declared.now }
-    requires small { number < NUMBERS }
     ensures there { IfSome result (λ found. declared_test dict.now declared.now number ≡ Some found) }
     ensures past { MatchOption result (is_past side (declared_test dict.now declared.now number) (Some test) ≡ false) (λ found. is_past side (Some found) (Some test) ≡ true) }
 {
@@ -107,7 +105,6 @@ fn nearest(dict: &Dict, declared: &Flags, test: Test, side: Side) -> Option<u32>
         let Some((_, number)) = dict.word_at(place) else {
             unreachable!()
         };
-        let number = u32::from(number);
         if let Some(found) = test_past(dict, declared, number, test, side) {
             if is_nearer(nearest, found, side) {
                 nearest = Some(Found {
@@ -177,13 +174,12 @@ fn unlink_pair(dict: &Dict, taxonomy: &mut Taxonomy, from: Option<u32>, to: Opti
 }
 
 /// Adds the edge from a number to that of the next weaker test, if its word is a declared test and there is a weaker one.
-pub fn link_next(dict: &Dict, declared: &Flags, taxonomy: &mut Taxonomy, props: u32, number: u32)
-    requires props { props ≡ taxonomy.old.props }
-    requires few { props ≤ MAX_PROPS }
-    requires number { number < props }
+pub fn link_next(dict: &Dict, declared: &Flags, taxonomy: &mut Taxonomy, number: u32)
+    requires few { taxonomy.old.props ≤ MAX_PROPS }
+    requires number { number < taxonomy.old.props }
     requires dict { IsDict dict.now }
-    requires names { dict.now.props ≡ props }
-    requires bits { length declared.now ≡ props }
+    requires names { dict.now.props ≡ taxonomy.old.props }
+    requires bits { length declared.now ≡ taxonomy.old.props }
     requires ordered { TestsAreOrdered dict.now taxonomy.old }
     requires room { edge_count taxonomy.old < edge_room taxonomy.old.props }
     ensures linked { LinksNext dict.now declared.now number taxonomy.old taxonomy.new }
@@ -194,18 +190,11 @@ pub fn link_next(dict: &Dict, declared: &Flags, taxonomy: &mut Taxonomy, props: 
 }
 
 /// Puts a number between those of the next tests on both sides, if its word is a declared test.
-pub(crate) fn insert_test(
-    dict: &Dict,
-    declared: &Flags,
-    taxonomy: &mut Taxonomy,
-    props: u32,
-    number: u32,
-)
-    requires props { props ≡ taxonomy.old.props }
-    requires few { props ≤ MAX_PROPS }
-    requires number { number < props }
-    requires names { dict.now.props ≡ props }
-    requires bits { length declared.now ≡ props }
+pub(crate) fn insert_test(dict: &Dict, declared: &Flags, taxonomy: &mut Taxonomy, number: u32)
+    requires few { taxonomy.old.props ≤ MAX_PROPS }
+    requires number { number < taxonomy.old.props }
+    requires names { dict.now.props ≡ taxonomy.old.props }
+    requires bits { length declared.now ≡ taxonomy.old.props }
     requires ordered { TestsAreOrdered dict.now taxonomy.old }
     requires room { edge_count taxonomy.old + 2 ≤ edge_room taxonomy.old.props }
     ensures { InsertsTest dict.now declared.now number taxonomy.old taxonomy.new }
@@ -218,18 +207,11 @@ pub(crate) fn insert_test(
 }
 
 /// Removes a number from between those of the next tests on both sides, if its word is a declared test.
-pub(crate) fn remove_test(
-    dict: &Dict,
-    declared: &Flags,
-    taxonomy: &mut Taxonomy,
-    props: u32,
-    number: u32,
-)
-    requires props { props ≡ taxonomy.old.props }
-    requires few { props ≤ MAX_PROPS }
-    requires number { number < props }
-    requires names { dict.now.props ≡ props }
-    requires bits { length declared.now ≡ props }
+pub(crate) fn remove_test(dict: &Dict, declared: &Flags, taxonomy: &mut Taxonomy, number: u32)
+    requires few { taxonomy.old.props ≤ MAX_PROPS }
+    requires number { number < taxonomy.old.props }
+    requires names { dict.now.props ≡ taxonomy.old.props }
+    requires bits { length declared.now ≡ taxonomy.old.props }
     requires ordered { TestsAreOrdered dict.now taxonomy.old }
     requires room { edge_count taxonomy.old < edge_room taxonomy.old.props }
     ensures { RemovesTest dict.now declared.now number taxonomy.old taxonomy.new }

@@ -11,7 +11,7 @@ use lis_words::Word;
 
 impl Metadata {
     /// Gives a new word a free number, declares it, and adds an axiom from it to the word of each of these numbers.
-    pub fn declare_under(&mut self, word: &Word, places: &[u16])
+    pub fn declare_under(&mut self, word: &Word, places: &[u32])
         requires form { IsTrue (is_declarable word.now) }
         requires new { number_of self.old.dict word.now ≡ None }
         requires room { length self.old.dict.entries < self.old.limits.props }

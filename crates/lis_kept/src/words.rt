@@ -12,7 +12,6 @@ ghost use Rattle.lis_words.specs.Words.{is_valued, head_bytes};
 ghost use Rattle.lis_kept.specs.Areas.{block_of};
 ghost use Rattle.lis_kept.specs.Edges.{head_number, with_edge_to, without_edge_to};
 ghost use Rattle.lis_kept.specs.Forgetting.{MayGo, MayForget};
-ghost use Rattle.lis_kept.specs.Inside.{IsShort};
 ghost use Rattle.lis_kept.specs.Passes.{ext_beside, beside, is_of_pass, is_due, ForgetsWhere, ForgetsDue};
 ghost use Rattle.lis_kept.specs.Areas.Area.{Properties};
 ghost use Rattle.lis_kept.specs.Changes.{Declares, Learns, Forgets};
@@ -35,20 +34,17 @@ use lis_taxonomy::Taxonomy;
 use lis_words::{Word, head_of, is_valued};
 
 // Marks the block of a property slot.
-fn mark_property(marks: &mut Flags, limits: &Limits, number: u16)
+fn mark_property(marks: &mut Flags, limits: &Limits, number: u32)
     requires range { IsTrue (are_in_range limits.now) }
     requires number { number < limits.now.props }
     requires long { data_start limits.now ≤ length marks.old }
     ensures { marks.new ≡ slice_set marks.old (block_of limits.now Properties number) true }
 {
-    marks.put(
-        PROPERTIES_START + u32::from(number / PROPERTIES_PER_BLOCK),
-        true,
-    );
+    marks.put(PROPERTIES_START + number / PROPERTIES_PER_BLOCK, true);
 }
 
 // The number of the head of a valued word.
-fn head_number(dict: &Dict, word: &Word) -> Option<u16>
+fn head_number(dict: &Dict, word: &Word) -> Option<u32>
     ensures { result ≡ head_number dict.now word.now }
 {
     match head_of(word) {
@@ -58,7 +54,7 @@ fn head_number(dict: &Dict, word: &Word) -> Option<u16>
 }
 
 // Adds the edge from the number of a new word to that of its head, if it has one.
-fn link_head(taxonomy: &mut Taxonomy, number: u16, head: Option<u16>)
+fn link_head(taxonomy: &mut Taxonomy, number: u32, head: Option<u32>)
     requires number { number < taxonomy.old.props }
     requires head { IfSome head (λ h. h < taxonomy.old.props) }
     requires apart { head ≢ Some number }
@@ -70,13 +66,13 @@ fn link_head(taxonomy: &mut Taxonomy, number: u16, head: Option<u16>)
     let Some(head) = head else {
         return;
     };
-    let Ok(()) = taxonomy.add(u32::from(number), u32::from(head)) else {
+    let Ok(()) = taxonomy.add(number, head) else {
         unreachable!()
     };
 }
 
 // Removes the edge from the number of a word to that of its head, if it has one.
-fn unlink_head(taxonomy: &mut Taxonomy, number: u16, head: Option<u16>)
+fn unlink_head(taxonomy: &mut Taxonomy, number: u32, head: Option<u32>)
     requires number { number < taxonomy.old.props }
     requires head { IfSome head (λ h. h < taxonomy.old.props) }
     requires there { IfSome head (λ h. IsTrue (has_edge taxonomy.old number h)) }
@@ -85,21 +81,21 @@ fn unlink_head(taxonomy: &mut Taxonomy, number: u16, head: Option<u16>)
     let Some(head) = head else {
         return;
     };
-    let Ok(()) = taxonomy.remove(u32::from(number), u32::from(head)) else {
+    let Ok(()) = taxonomy.remove(number, head) else {
         unreachable!()
     };
 }
 
 // Whether some file's description has a number.
-fn is_had(ext: &Ext, number: u16) -> bool
+fn is_had(ext: &Ext, number: u32) -> bool
     requires { number < ext.now.props }
     ensures { result ≡ is_had ext.now number }
 {
-    ext.is_had(u32::from(number))
+    ext.is_had(number)
 }
 
 // Whether some file's description has a number, not counting that in a slot, if one is given.
-fn is_had_beside(ext: &Ext, slot: Option<u16>, number: u16) -> bool
+fn is_had_beside(ext: &Ext, slot: Option<u32>, number: u32) -> bool
     requires { number < ext.now.props }
     ensures { result ≡ is_had (ext_beside slot ext.now) number }
 {
@@ -110,7 +106,7 @@ fn is_had_beside(ext: &Ext, slot: Option<u16>, number: u16) -> bool
 }
 
 // Whether the word of a number is valued, and another number is that of its head.
-fn has_head(dict: &Dict, number: u16, head: u16) -> bool
+fn has_head(dict: &Dict, number: u32, head: u32) -> bool
     requires { IsDict dict.now }
     ensures { result ≡ is_head_by (word_of dict.now number) (word_of dict.now head) }
 {
@@ -124,22 +120,17 @@ fn has_head(dict: &Dict, number: u16, head: u16) -> bool
 }
 
 // Whether a number is that of an axiom's left side, or of its head.
-fn is_on_left(dict: &Dict, slot: AxiomSlot, number: u16) -> bool
-    requires { IsShort dict.now }
+fn is_on_left(dict: &Dict, slot: AxiomSlot, number: u32) -> bool
     ensures { result ≡ (is_left_of number slot || is_left_head_of dict.now number slot) }
 {
     let AxiomSlot::Pair(left, _) = slot else {
-        return false;
-    };
-    let Ok(left) = u16::try_from(left) else {
         return false;
     };
     left == number || has_head(dict, left, number)
 }
 
 // Whether a number is the left side of an axiom, or the head of one.
-fn is_named_left(dict: &Dict, axioms: &[AxiomSlot], number: u16) -> bool
-    requires { IsShort dict.now }
+fn is_named_left(dict: &Dict, axioms: &[AxiomSlot], number: u32) -> bool
     ensures { result ≡ list_any (λ slot. is_left_of number slot || is_left_head_of dict.now number slot) axioms.now }
 {
     axioms.iter().any(|slot| is_on_left(dict, *slot, number))
@@ -169,7 +160,7 @@ impl Metadata {
     }
 
     // The same, and returns the number.
-    pub(crate) fn declare_word(&mut self, word: &Word) -> u16
+    pub(crate) fn declare_word(&mut self, word: &Word) -> u32
         requires form { IsTrue (is_declarable word.now) }
         requires new { number_of self.old.dict word.now ≡ None }
         requires room { length self.old.dict.entries < self.old.limits.props }
@@ -181,16 +172,14 @@ impl Metadata {
         let Ok(number) = self.dict.add(word) else {
             unreachable!()
         };
-        let props = self.limits.props;
-        let at = u32::from(number);
-        self.declared.put(at, true);
-        insert_test(&self.dict, &self.declared, &mut self.taxonomy, props, at);
+        self.declared.put(number, true);
+        insert_test(&self.dict, &self.declared, &mut self.taxonomy, number);
         mark_property(&mut self.marks, &self.limits, number);
         number
     }
 
     /// The number of a word that is known and not declared: the one that it has, or otherwise a free one that it gets.
-    pub fn learn(&mut self, word: &Word) -> u16
+    pub fn learn(&mut self, word: &Word) -> u32
         requires form { number_of self.old.dict word.now ≡ None → IsTrue (is_undeclared word.now) }
         requires headed { number_of self.old.dict word.now ≡ None → IsTrue (is_valued word.now)
             → IsSome (number_of self.old.dict (head_bytes word.now)) }
@@ -211,7 +200,7 @@ impl Metadata {
     }
 
     // Forgets the word of a number, if it has one. The word may be forgotten.
-    fn forget(&mut self, number: u16)
+    fn forget(&mut self, number: u32)
         requires { IsSome (word_of self.old.dict number) → MayGo number self.old }
         ensures forgets { ForgetsWhere (λ n. number == n) 1 self.old self.new }
         ensures sound { AreSound self.new }
@@ -226,7 +215,7 @@ impl Metadata {
     }
 
     /// Forgets the words of those numbers that are not in use.
-    pub fn forget_unused(&mut self, numbers: &[u16])
+    pub fn forget_unused(&mut self, numbers: &[u32])
         requires { MayForget numbers.now self.old }
         ensures forgets { Forgets numbers.now self.old self.new }
         ensures sound { AreSound self.new }
@@ -238,7 +227,7 @@ impl Metadata {
 
     // Forgets the words of those of the numbers that nothing uses except the description in a slot, if one is given: valued words, or the
     // others.
-    fn forget_due(&mut self, numbers: &[u16], valued: bool, slot: Option<u16>)
+    fn forget_due(&mut self, numbers: &[u32], valued: bool, slot: Option<u32>)
         requires { (n : ℕ) → is_due slot self.old valued n ≡ true → MayGo n self.old }
         ensures forgets { ForgetsDue slot valued numbers.now self.old self.new }
         ensures sound { AreSound self.new }
@@ -253,7 +242,7 @@ impl Metadata {
     }
 
     // Whether nothing uses a number except the description in a slot, if one is given, and its word is valued, or is not.
-    fn is_due(&self, number: u16, valued: bool, slot: Option<u16>) -> bool
+    fn is_due(&self, number: u32, valued: bool, slot: Option<u32>) -> bool
         ensures { result ≡ is_due slot self.now valued number }
     {
         let Some(word) = self.dict.word_of(number) else {
@@ -266,11 +255,11 @@ impl Metadata {
     }
 
     // Whether a number is in use, not counting the description in a slot, if one is given.
-    pub(crate) fn is_used_beside(&self, slot: Option<u16>, number: u16) -> bool
+    pub(crate) fn is_used_beside(&self, slot: Option<u32>, number: u32) -> bool
         requires { IsSome (word_of self.now.dict number) }
         ensures { result ≡ is_used (beside slot self.now) number }
     {
-        self.declared.get(u32::from(number))
+        self.declared.get(number)
             || is_had_beside(&self.ext, slot, number)
             || is_named_left(&self.dict, self.axioms.as_slice(), number)
     }

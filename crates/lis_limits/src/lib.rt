@@ -61,9 +61,6 @@ pub const FILE_LEN: usize = 256;
 /// How many axioms have their slots in one block.
 pub const AXIOMS_PER_BLOCK: usize = 512;
 
-/// How many numbers of two bytes are below this one.
-pub const NUMBERS: u32 = 65_536;
-
 /// The most words that a file has: its own, those derived from it and the tests that it meets, and all that these entail.
 pub const MAX_DESCRIPTION: usize = 128;
 

@@ -62,7 +62,7 @@ pub fn no_axioms(alloc: Global, limits: &Limits) -> Result<Axioms, AllocError>
 }
 
 /// The number of the head of a number's word, if the word is valued.
-pub fn head_number(words: &Words, number: u16) -> Option<u16>
+pub fn head_number(words: &Words, number: u32) -> Option<u32>
     ensures { result ≡ head_by words.now.dict (word_of words.now.dict number) }
 {
     let word = words.dict.word_of(number)?;
@@ -71,7 +71,7 @@ pub fn head_number(words: &Words, number: u16) -> Option<u16>
 }
 
 // Adds the edge from a number without edges to that of its head, if it has one.
-fn link_head(taxonomy: &mut Taxonomy, number: u16, head: Option<u16>)
+fn link_head(taxonomy: &mut Taxonomy, number: u32, head: Option<u32>)
     requires number { number < taxonomy.old.props }
     requires head { IfSome head (λ h. h < taxonomy.old.props) }
     requires apart { head ≢ Some number }
@@ -83,7 +83,7 @@ fn link_head(taxonomy: &mut Taxonomy, number: u16, head: Option<u16>)
     let Some(head) = head else {
         return;
     };
-    let Ok(()) = taxonomy.add(u32::from(number), u32::from(head)) else {
+    let Ok(()) = taxonomy.add(number, head) else {
         unreachable!()
     };
 }
@@ -96,7 +96,6 @@ fn link_heads(limits: &Limits, words: &Words, taxonomy: &mut Taxonomy)
     ensures { LinksHeads words.now limits.now.props taxonomy.new }
 {
     for number in 0..limits.props {
-        let number = number as u16;
         link_head(taxonomy, number, head_number(words, number));
     }
 }
@@ -109,7 +108,7 @@ fn link_tests(limits: &Limits, words: &Words, taxonomy: &mut Taxonomy)
     ensures { LinksTests words.now taxonomy.old taxonomy.new }
 {
     for number in 0..limits.props {
-        link_next(&words.dict, &words.declared, taxonomy, limits.props, number);
+        link_next(&words.dict, &words.declared, taxonomy, number);
     }
 }
 

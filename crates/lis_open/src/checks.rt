@@ -26,9 +26,8 @@ use crate::mounting::OpenFault;
 use crate::words::Words;
 use lis_bits::Rows;
 use lis_blockmap::BlockMap;
-use lis_content::are_zeros;
 use lis_ext::Ext;
-use lis_fields::AxiomSlot;
+use lis_fields::{AxiomSlot, are_zeros};
 use lis_journal::Journal;
 use lis_kept::{bitmap_start, rows_start};
 use lis_limits::{BLOCK_LEN, MAX_FILES};
@@ -52,10 +51,10 @@ fn mark_left(words: &Words, row: &mut Rows, slot: AxiomSlot)
         return;
     };
     row.put(0, left, true);
-    let Some(head) = head_number(words, left as u16) else {
+    let Some(head) = head_number(words, left) else {
         return;
     };
-    row.put(0, u32::from(head), true);
+    row.put(0, head, true);
 }
 
 // Makes a row of the left sides of axioms, and of the heads of those that are valued.
@@ -74,7 +73,7 @@ fn mark_lefts(words: &Words, axioms: &Axioms, row: &mut Rows)
 }
 
 // Whether the number has a word that is not declared, is in no description, and is not marked as a left side or the head of one.
-fn is_stray(words: &Words, ext: &Ext, lefts: &Rows, number: u16) -> bool
+fn is_stray(words: &Words, ext: &Ext, lefts: &Rows, number: u32) -> bool
     requires words { AreWords words.now }
     requires props { ext.now.props ≡ words.now.dict.props }
     requires shape { HasShape lefts.now 1 words.now.dict.props }
@@ -85,7 +84,6 @@ fn is_stray(words: &Words, ext: &Ext, lefts: &Rows, number: u16) -> bool
     if words.dict.word_of(number).is_none() {
         return false;
     }
-    let number = u32::from(number);
     if words.declared.get(number) {
         return false;
     }
@@ -112,7 +110,7 @@ pub fn check_words(
 {
     mark_lefts(words, axioms, row);
     for number in 0..limits.props {
-        if is_stray(words, &files.ext, row, number as u16) {
+        if is_stray(words, &files.ext, row, number) {
             return Err(OpenFault::Damaged(Spot::Word(number)));
         }
     }

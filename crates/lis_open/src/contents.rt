@@ -28,7 +28,7 @@ fn read_front<D: Disk>(
     journal: &Journal,
     base: u32,
     name: &Name,
-    blocks: &[u16],
+    blocks: &[u32],
     bytes: &mut Buffer,
 ) -> Result<(), Failed>
     requires few { length bytes.old ≤ MAX_LARGE_FILE }
@@ -49,7 +49,7 @@ fn read_front<D: Disk>(
         if gives_all(name, &bytes.bytes()[..end], seen) {
             return Ok(());
         }
-        bytes.read_block(journal, disk, base + u32::from(*block), n as u32)?;
+        bytes.read_block(journal, disk, base + *block, n as u32)?;
     }
     Ok(())
 }
@@ -61,7 +61,7 @@ pub fn read_content<D: Disk>(
     journal: &Journal,
     limits: &Limits,
     rec: &FileRec,
-    blocks: &[u16],
+    blocks: &[u32],
     bytes: &mut Buffer,
 ) -> Result<(), Failed>
     requires readable { IsReadable limits.now journal.now (D.meaning disk.old) }

@@ -97,7 +97,7 @@ fn read_slot<D: Disk>(
     Ok(read_file(&bytes, limits.version))
 }
 
-fn mark_all(map: &mut BlockMap, blocks: &[u16])
+fn mark_all(map: &mut BlockMap, blocks: &[u32])
     requires free { IsTrue (are_free map.old blocks.now) }
     requires distinct { IsTrue (are_distinct blocks.now) }
     ensures { map.new ≡ marked map.old blocks.now }
@@ -108,21 +108,21 @@ fn mark_all(map: &mut BlockMap, blocks: &[u16])
 }
 
 // Whether a word of that number is a declared test that this many bytes meet. Few words are tests, so that is checked first.
-fn is_met_word(words: &Words, word: &Word, number: u16, size: u64) -> bool
+fn is_met_word(words: &Words, word: &Word, number: u32, size: u64) -> bool
     requires are { AreWords words.now }
     requires number { number_of words.now.dict word.now ≡ Some number }
     ensures { result ≡ (is_met (test_of word.now) size && bit_of words.now.declared (number_of words.now.dict word.now)) }
 {
-    is_met(test_of(word), size) && words.declared.get(u32::from(number))
+    is_met(test_of(word), size) && words.declared.get(number)
 }
 
 // Finds the numbers.
-fn gather(numbers: &[u16], search: &mut Search)
+fn gather(numbers: &[u32], search: &mut Search)
     requires { IsTrue (list_all (λ n. nat_lt n MAX_PROPS) numbers.now) }
     ensures { Gathered search.old search.new numbers.now }
 {
     for number in numbers {
-        search.meet(u32::from(*number));
+        search.meet(*number);
     }
 }
 
@@ -136,7 +136,7 @@ fn gather_derived(words: &Words, derived: &Derived, search: &mut Search) -> bool
         let Some(number) = numbered(words, word) else {
             return false;
         };
-        search.meet(u32::from(number));
+        search.meet(number);
     }
     true
 }
@@ -152,13 +152,13 @@ fn gather_met(words: &Words, size: u64, search: &mut Search)
             unreachable!()
         };
         if is_met_word(words, &word, number, size) {
-            search.meet(u32::from(number));
+            search.meet(number);
         }
     }
 }
 
 // The found numbers, in rising order. None comes if there are more than a description may have.
-fn list_numbers(search: &Search) -> Option<ArrayVec<u16, MAX_DESCRIPTION>>
+fn list_numbers(search: &Search) -> Option<ArrayVec<u32, MAX_DESCRIPTION>>
     ensures { (props : ℕ) → props ≤ MAX_PROPS → ((n : ℕ) → IsTrue (is_found search.now n) → n < props)
         → AreListed (numbers_where props (is_found search.now)) (option_map (λ listed. listed.items) result) }
 {
@@ -168,7 +168,7 @@ fn list_numbers(search: &Search) -> Option<ArrayVec<u16, MAX_DESCRIPTION>>
         if numbers.is_full() {
             return None;
         }
-        numbers.push(number as u16);
+        numbers.push(number);
         start = number + 1;
     }
     Some(numbers)
@@ -182,7 +182,7 @@ fn describe(
     rec: &FileRec,
     bytes: &[u8],
     search: &mut Search,
-) -> Option<ArrayVec<u16, MAX_DESCRIPTION>>
+) -> Option<ArrayVec<u32, MAX_DESCRIPTION>>
     requires are { AreWords words.now }
     requires props { taxonomy.now.props ≡ words.now.dict.props }
     requires below { IsTrue (list_all (λ n. nat_lt n taxonomy.now.props) rec.now.tags) }
@@ -212,7 +212,7 @@ fn may_file(words: &Words, files: &Files, rec: &FileRec) -> bool
 }
 
 // Files a record, takes its blocks, and gives its slot the numbers of its description.
-fn file(files: &mut Files, slot: u16, rec: FileRec, blocks: &[u16], numbers: &[u16])
+fn file(files: &mut Files, slot: u32, rec: FileRec, blocks: &[u32], numbers: &[u32])
     requires distinct { IsTrue (are_distinct blocks.now) }
     requires name { slot_of files.old.catalog rec.name ≡ None }
     requires free { IsTrue (are_free files.old.map blocks.now) }
@@ -224,7 +224,7 @@ fn file(files: &mut Files, slot: u16, rec: FileRec, blocks: &[u16], numbers: &[u
 {
     mark_all(&mut files.map, blocks);
     files.catalog.place(slot, rec);
-    files.ext.set_file(u32::from(slot), numbers);
+    files.ext.set_file(slot, numbers);
     files.ext.settle();
 }
 
@@ -245,7 +245,7 @@ fn take_record<D: Disk>(
     files: &mut Files,
     search: &mut Search,
     bytes: &mut Buffer,
-    slot: u16,
+    slot: u32,
     rec: FileRec,
 ) -> Result<bool, Failed>
     requires readable { IsReadable known.limits.now known.journal.now (D.meaning disk.old) }
@@ -292,7 +292,7 @@ fn take_file<D: Disk>(
     files: &mut Files,
     search: &mut Search,
     bytes: &mut Buffer,
-    slot: u16,
+    slot: u32,
     found: Option<FileSlot>,
 ) -> Result<bool, Failed>
     requires readable { IsReadable known.limits.now known.journal.now (D.meaning disk.old) }
@@ -339,7 +339,7 @@ pub fn read_files<D: Disk>(
 {
     for slot in 0..known.limits.files {
         let found = read_slot(last, disk, known.journal, known.limits, slot)?;
-        let is_taken = take_file(disk, known, files, search, bytes, slot as u16, found)?;
+        let is_taken = take_file(disk, known, files, search, bytes, slot, found)?;
         if !is_taken {
             return Err(OpenFault::Damaged(Spot::File(slot)));
         }

@@ -29,28 +29,28 @@ use lis_ports::{Disk, Failed};
 pub const MOST_BLOCKS: usize = MAX_FILE_BLOCKS + 1;
 
 // Whether there is this data block, and it is free.
-fn is_free(map: &BlockMap, block: u16) -> bool
+fn is_free(map: &BlockMap, block: u32) -> bool
     ensures { result ≡ (nat_lt block (length map.now) && not (is_taken map.now block)) }
 {
-    usize::from(block) < map.len() && !map.is_taken(block)
+    (block as usize) < map.len() && !map.is_taken(block)
 }
 
 // Whether there are these data blocks, and they are free.
-fn are_free(map: &BlockMap, blocks: &[u16]) -> bool
+fn are_free(map: &BlockMap, blocks: &[u32]) -> bool
     ensures { result ≡ are_free map.now blocks.now }
 {
     blocks.iter().all(|block| is_free(map, *block))
 }
 
 // Whether the number is one of the others.
-fn is_among(number: u16, others: &[u16]) -> bool
+fn is_among(number: u32, others: &[u32]) -> bool
     ensures { result ≡ has_number others.now number }
 {
     others.iter().any(|other| *other == number)
 }
 
 // Whether no number occurs twice.
-fn are_distinct(numbers: &[u16]) -> bool
+fn are_distinct(numbers: &[u32]) -> bool
     ensures { result ≡ are_distinct numbers.now }
 {
     for (k, number) in numbers.iter().enumerate() {
@@ -68,7 +68,7 @@ fn read_numbers<D: Disk>(
     journal: &Journal,
     home: u32,
     size: u32,
-) -> Result<Option<ArrayVec<u16, MAX_FILE_BLOCKS>>, Failed>
+) -> Result<Option<ArrayVec<u32, MAX_FILE_BLOCKS>>, Failed>
     requires few { size ≤ MAX_LARGE_FILE }
     requires home { homes_start journal.now.layout ≤ home }
     requires within { home < journal.now.layout.blocks }
@@ -85,7 +85,7 @@ fn read_numbers<D: Disk>(
 }
 
 // The blocks of a content, and then those that the slot lists.
-fn joined(content: &[u16], slot: &[u16]) -> ArrayVec<u16, MOST_BLOCKS>
+fn joined(content: &[u32], slot: &[u32]) -> ArrayVec<u32, MOST_BLOCKS>
     requires { length content.now + length slot.now ≤ MAX_PLACED }
     ensures { result.items ≡ content.now ++ slot.now }
 {
@@ -100,9 +100,9 @@ fn all_blocks<D: Disk>(
     disk: &mut D,
     journal: &Journal,
     limits: &Limits,
-    slot: &[u16],
+    slot: &[u32],
     size: u32,
-) -> Result<Option<ArrayVec<u16, MOST_BLOCKS>>, Failed>
+) -> Result<Option<ArrayVec<u32, MOST_BLOCKS>>, Failed>
     requires readable { IsReadable limits.now journal.now (D.meaning disk.old) }
     requires few { size ≤ MAX_LARGE_FILE }
     requires count { length slot.now ≡ slot_count size }
@@ -115,7 +115,7 @@ fn all_blocks<D: Disk>(
     if !is_large(size) {
         return Ok(Some(joined(&[], slot)));
     }
-    let home = data_start(limits) + u32::from(slot[0]);
+    let home = data_start(limits) + slot[0];
     let Some(numbers) = read_numbers(disk, journal, home, size)? else {
         return Ok(None);
     };
@@ -130,7 +130,7 @@ pub fn free_blocks<D: Disk>(
     limits: &Limits,
     map: &BlockMap,
     rec: &FileRec,
-) -> Result<Option<ArrayVec<u16, MOST_BLOCKS>>, Failed>
+) -> Result<Option<ArrayVec<u32, MOST_BLOCKS>>, Failed>
     requires readable { IsReadable limits.now journal.now (D.meaning disk.old) }
     requires form { IsTrue (is_record limits.now.version rec.now) }
     requires map { length map.now ≡ limits.now.blocks }

@@ -18,7 +18,7 @@ fn is_declared(words: &Words, word: &Word) -> bool
 {
     match words.dict.id_of(word) {
         None => false,
-        Some(number) => words.declared.get(u32::from(number)),
+        Some(number) => words.declared.get(number),
     }
 }
 
@@ -89,23 +89,12 @@ fn is_assignable(words: &Words, word: &Word) -> bool
     (is_plain_word(word.bytes()) && is_declared(words, word)) || has_declared_head(words, word)
 }
 
-// The word that has a number.
-fn word_at(words: &Words, number: u32) -> Option<Word>
-    requires { AreWords words.now }
-    ensures { result ≡ word_of words.now.dict number }
-{
-    match u16::try_from(number) {
-        Err(_) => None,
-        Ok(number) => words.dict.word_of(number),
-    }
-}
-
 /// Whether an axiom may have the word of a number as its right side.
 pub fn is_right(words: &Words, number: u32) -> bool
     requires { AreWords words.now }
     ensures { result ≡ is_right words.now (word_of words.now.dict number) }
 {
-    match word_at(words, number) {
+    match words.dict.word_of(number) {
         None => false,
         Some(word) => is_plain_word(word.bytes()) && is_declared(words, &word),
     }
@@ -123,7 +112,7 @@ fn has_its_head(words: &Words, word: &Word) -> bool
 }
 
 /// The number of a word. The result is `None` if it has none, or if it is valued and its head has none.
-pub fn numbered(words: &Words, word: &Word) -> Option<u16>
+pub fn numbered(words: &Words, word: &Word) -> Option<u32>
     requires { AreWords words.now }
     ensures { MatchOption result (is_numbered words.now.dict word.now ≡ false)
         (λ number. (is_numbered words.now.dict word.now ≡ true) × (number_of words.now.dict word.now ≡ Some number)) }
@@ -145,14 +134,14 @@ pub fn is_left(words: &Words, number: u32) -> bool
     requires { AreWords words.now }
     ensures { result ≡ is_left words.now (word_of words.now.dict number) }
 {
-    match word_at(words, number) {
+    match words.dict.word_of(number) {
         None => false,
         Some(word) => is_nameable(words, &word) && has_its_head(words, &word),
     }
 }
 
 // Whether the number has a word that may be assigned to files.
-fn is_assignable_number(words: &Words, number: u16) -> bool
+fn is_assignable_number(words: &Words, number: u32) -> bool
     requires { AreWords words.now }
     ensures { result ≡ is_assignable_number words.now number }
 {
@@ -163,7 +152,7 @@ fn is_assignable_number(words: &Words, number: u16) -> bool
 }
 
 /// Whether each number has a word that may be assigned to files.
-pub fn are_assignable(words: &Words, numbers: &[u16]) -> bool
+pub fn are_assignable(words: &Words, numbers: &[u32]) -> bool
     requires { AreWords words.now }
     ensures { result ≡ list_all (is_assignable_number words.now) numbers.now }
 {

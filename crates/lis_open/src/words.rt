@@ -81,7 +81,7 @@ fn read_property<D: Disk>(
 }
 
 // Takes what a slot says.
-fn take_property(slots: &mut WordSlots, number: u16, property: PropSlot)
+fn take_property(slots: &mut WordSlots, number: u32, property: PropSlot)
     requires below { number < length slots.old.unsorted }
     requires flags { number < length slots.old.declared }
     requires free { slice_index_or slots.old.unsorted number None ≡ None }
@@ -93,7 +93,7 @@ fn take_property(slots: &mut WordSlots, number: u16, property: PropSlot)
         PropSlot::Declared(word) => (word, true),
     };
     slots.unsorted.put(number, &word);
-    slots.declared.put(u32::from(number), is_declared);
+    slots.declared.put(number, is_declared);
 }
 
 // Reads the property slots up to the first one that is in no layout, and returns its number, or that of all slots.
@@ -116,7 +116,7 @@ fn read_properties<D: Disk>(
         let Some(property) = read_property(last, disk, journal, limits, number)? else {
             return Ok(number);
         };
-        take_property(slots, number as u16, property);
+        take_property(slots, number, property);
     }
     Ok(limits.props)
 }

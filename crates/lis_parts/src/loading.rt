@@ -16,7 +16,7 @@ use lis_store::Store;
 // Reads the index block of the file in the slot, which has this many bytes, if it has one.
 fn read_index<D: Disk>(
     store: &Store,
-    slot: u16,
+    slot: u32,
     size: u32,
     index: &mut [u8],
     disk: &mut D,
@@ -38,7 +38,7 @@ fn read_index<D: Disk>(
 /// Reads the bytes of the file in the slot, which has this many.
 pub fn load<D: Disk>(
     store: &Store,
-    slot: u16,
+    slot: u32,
     size: u32,
     bytes: &mut Payload,
     disk: &mut D,

@@ -39,7 +39,7 @@ fn make_new<D: Disk>(
     file: &mut Payload,
     made: &mut Payload,
     disk: &mut D,
-    slot: u16,
+    slot: u32,
     place: &Place,
     edited: &[u8],
 ) -> Result<Returned, Failed>

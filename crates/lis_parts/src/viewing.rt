@@ -128,7 +128,7 @@ fn view_slot<T: Station>(
     workspace: &mut Workspace,
     station: &mut T,
     place: &Place,
-    slot: u16,
+    slot: u32,
 ) -> Result<(), End>
     requires sound { IsSound store.now }
     requires slot { (name : List ℕ) × (slot_of store.now.metadata.catalog name ≡ Some slot) }

@@ -26,7 +26,7 @@ use lis_words::Name;
 // Shows the n-th block of the file in the slot, by its index block. The buffer is as long as a block.
 fn show_block<T: Station>(
     store: &Store,
-    slot: u16,
+    slot: u32,
     size: u32,
     index: &[u8],
     n: u32,
@@ -57,7 +57,7 @@ fn show_block<T: Station>(
 // Shows the bytes of the file in the slot block by block, by its index block.
 fn show_blocks<T: Station>(
     store: &Store,
-    slot: u16,
+    slot: u32,
     size: u32,
     index: &[u8],
     station: &mut T,
@@ -83,7 +83,7 @@ fn show_blocks<T: Station>(
 /// Shows the bytes of the file in the slot, block by block.
 pub fn show_content<T: Station>(
     store: &Store,
-    slot: u16,
+    slot: u32,
     size: u32,
     station: &mut T,
 ) -> Result<(), End>
@@ -107,7 +107,7 @@ pub fn show_content<T: Station>(
 }
 
 // Shows the file in the slot: its size, its bytes, and a line feed after them.
-fn show_file<T: Station>(store: &Store, slot: u16, station: &mut T) -> Result<(), End>
+fn show_file<T: Station>(store: &Store, slot: u32, station: &mut T) -> Result<(), End>
     requires sound { IsSound store.now }
     requires slot { (name : List ℕ) × (slot_of store.now.metadata.catalog name ≡ Some slot) }
     requires usable { IsUsable store.now (T.meaning station.old) }

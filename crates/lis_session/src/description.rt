@@ -20,7 +20,7 @@ use lis_store::Store;
 use lis_words::Name;
 
 // Shows the k-th word, if there is one and the file in the slot has it.
-fn answer_word<T: Station>(store: &Store, slot: u16, k: u32, station: &mut T) -> Result<(), End>
+fn answer_word<T: Station>(store: &Store, slot: u32, k: u32, station: &mut T) -> Result<(), End>
     requires sound { IsSound store.now }
     requires slot { slot < length store.now.metadata.ext.sets }
     ensures { Answers (T.meaning station.old) (T.meaning station.new)
@@ -29,14 +29,14 @@ fn answer_word<T: Station>(store: &Store, slot: u16, k: u32, station: &mut T) ->
     let Some((word, number)) = store.word_at(k) else {
         return Ok(());
     };
-    if !store.descriptions().has(u32::from(number), u32::from(slot)) {
+    if !store.descriptions().has(number, slot) {
         return Ok(());
     }
     answer_line(station, b'p', word.bytes())
 }
 
 // Shows the words that the file in the slot has, one by one.
-fn answer_words<T: Station>(store: &Store, slot: u16, station: &mut T) -> Result<(), End>
+fn answer_words<T: Station>(store: &Store, slot: u32, station: &mut T) -> Result<(), End>
     requires sound { IsSound store.now }
     requires slot { slot < length store.now.metadata.ext.sets }
     ensures { Answers (T.meaning station.old) (T.meaning station.new)
@@ -49,7 +49,7 @@ fn answer_words<T: Station>(store: &Store, slot: u16, station: &mut T) -> Result
 }
 
 // Shows the words that the file in the slot has, and that the command was done.
-fn answer_description<T: Station>(store: &Store, slot: u16, station: &mut T) -> Result<(), End>
+fn answer_description<T: Station>(store: &Store, slot: u32, station: &mut T) -> Result<(), End>
     requires sound { IsSound store.now }
     requires slot { slot < length store.now.metadata.ext.sets }
     ensures { Answers (T.meaning station.old) (T.meaning station.new)

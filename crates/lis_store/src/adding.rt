@@ -54,7 +54,7 @@ pub(crate) fn numbers_of(
     metadata: &Metadata,
     words: &[Word],
     search: &mut Search,
-) -> ArrayVec<u16, MAX_ASSIGNED>
+) -> ArrayVec<u32, MAX_ASSIGNED>
     requires sound { AreSound metadata.now }
     requires few { length words.now ≤ MAX_ASSIGNED }
     ensures { result.items ≡ numbers_named metadata.now.dict words.now }
@@ -71,7 +71,7 @@ pub(crate) fn numbers_entailed(
     derived: &[Word],
     size: u64,
     search: &mut Search,
-) -> ArrayVec<u16, MAX_DESCRIPTION>
+) -> ArrayVec<u32, MAX_DESCRIPTION>
     requires sound { AreSound metadata.now }
     requires few { length (all_up (declared_of metadata.now) (axioms_of metadata.now) (assigned.now ++ derived.now ++ met_tests (declared_of metadata.now) size)) ≤ MAX_DESCRIPTION }
     ensures { result.items

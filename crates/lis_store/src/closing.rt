@@ -22,19 +22,19 @@ use lis_words::Test;
 #[derive(Clone, Copy)]
 pub(crate) enum Rebuild {
     /// Those that have the number, from all their numbers.
-    Having(u16),
+    Having(u32),
     /// Those that have the left number, from their numbers that need no axiom to the right one.
-    Losing(u16, u16),
+    Losing(u32, u32),
     /// Those of files that meet the test, from the number and all their own.
-    Meeting(Test, u16),
+    Meeting(Test, u32),
 }
 
 /// The numbers of all that the words of these numbers entail, in rising order.
 pub(crate) fn all_entailed(
     metadata: &Metadata,
-    numbers: &[u16],
+    numbers: &[u32],
     search: &mut Search,
-) -> ArrayVec<u16, MAX_DESCRIPTION>
+) -> ArrayVec<u32, MAX_DESCRIPTION>
     requires sound { AreSound metadata.now }
     requires named { IsTrue (list_all (λ n. is_some (word_of metadata.now.dict n)) numbers.now) }
     requires few { length (closure metadata.now numbers.now) ≤ MAX_DESCRIPTION }
@@ -45,21 +45,21 @@ pub(crate) fn all_entailed(
 }
 
 // Whether the description in a slot is made again.
-fn is_concerned(metadata: &Metadata, how: Rebuild, slot: u16) -> bool
+fn is_concerned(metadata: &Metadata, how: Rebuild, slot: u32) -> bool
     requires sound { AreSound metadata.now }
     requires words { has_words metadata.now how ≡ true }
     requires slot { slot < metadata.now.limits.files }
     ensures { result ≡ is_concerned metadata.now how slot }
 {
     match how {
-        Rebuild::Having(number) => metadata.ext().has(u32::from(number), u32::from(slot)),
-        Rebuild::Losing(left, _) => metadata.ext().has(u32::from(left), u32::from(slot)),
+        Rebuild::Having(number) => metadata.ext().has(number, slot),
+        Rebuild::Losing(left, _) => metadata.ext().has(left, slot),
         Rebuild::Meeting(test, _) => is_met_at(metadata, test, slot),
     }
 }
 
 // Whether the file in a slot was given the word of a number.
-fn is_given(metadata: &Metadata, slot: u16, number: u16) -> bool
+fn is_given(metadata: &Metadata, slot: u32, number: u32) -> bool
     ensures { result ≡ has_number (tags_at metadata.now slot) number }
 {
     match metadata.rec(slot) {
@@ -81,17 +81,17 @@ fn find_lost(metadata: &Metadata, how: Rebuild, search: &mut Search)
 }
 
 // Whether a number of the description in a slot is one of those of which it is made again.
-fn is_base(metadata: &Metadata, how: Rebuild, slot: u16, number: u16, lost: &Search) -> bool
+fn is_base(metadata: &Metadata, how: Rebuild, slot: u32, number: u32, lost: &Search) -> bool
     requires lost { FindsLost metadata.now how lost.now }
     requires number { number < metadata.now.limits.props }
     requires sound { AreSound metadata.now }
     ensures { result ≡ is_base metadata.now how slot number }
 {
-    !lost.has(u32::from(number)) || is_given(metadata, slot, number)
+    !lost.has(number) || is_given(metadata, slot, number)
 }
 
 // A number that a description gets and did not have.
-fn added(how: Rebuild) -> ArrayVec<u16, 129>
+fn added(how: Rebuild) -> ArrayVec<u32, 129>
     ensures { result.items ≡ added how }
 {
     let mut numbers = ArrayVec::new();
@@ -108,10 +108,10 @@ fn added(how: Rebuild) -> ArrayVec<u16, 129>
 fn base_at(
     metadata: &Metadata,
     how: Rebuild,
-    slot: u16,
-    numbers: &[u16],
+    slot: u32,
+    numbers: &[u32],
     search: &mut Search,
-) -> ArrayVec<u16, 129>
+) -> ArrayVec<u32, 129>
     requires sound { AreSound metadata.now }
     requires named { has_words metadata.now how ≡ true }
     requires numbers { IsTrue (list_all (λ n. is_some (word_of metadata.now.dict n)) numbers.now) }
@@ -130,7 +130,7 @@ fn base_at(
 }
 
 // Makes the description in a slot again, if it is concerned.
-fn rebuild_slot(metadata: &mut Metadata, how: Rebuild, slot: u16, search: &mut Search)
+fn rebuild_slot(metadata: &mut Metadata, how: Rebuild, slot: u32, search: &mut Search)
     requires sound { AreSound metadata.old }
     requires words { has_words metadata.old how ≡ true }
     requires slot { slot < metadata.old.limits.files }
@@ -143,7 +143,7 @@ fn rebuild_slot(metadata: &mut Metadata, how: Rebuild, slot: u16, search: &mut S
     if !is_concerned(metadata, how, slot) {
         return;
     }
-    let old = metadata.ext().numbers(u32::from(slot));
+    let old = metadata.ext().numbers(slot);
     let base = base_at(metadata, how, slot, old, search);
     let new = all_entailed(metadata, base.as_slice(), search);
     metadata.describe(slot, new.as_slice());
@@ -160,6 +160,6 @@ pub(crate) fn rebuild_all(metadata: &mut Metadata, how: Rebuild, search: &mut Se
 {
     let files = metadata.limits().files;
     for slot in 0..files {
-        rebuild_slot(metadata, how, slot as u16, search);
+        rebuild_slot(metadata, how, slot, search);
     }
 }

@@ -27,7 +27,7 @@ impl Memory {
         &mut self,
         disk: &mut D,
         payload: &[u8],
-    ) -> Result<ArrayVec<u16, 16>, ChangeFault>
+    ) -> Result<ArrayVec<u32, 16>, ChangeFault>
         requires ready { IsReadyForContent payload.now (stored self.old) (D.meaning disk.old) }
         requires enough { blocks_taken self.old.metadata.limits.version (length payload.now) ≤ free_count self.old.metadata.taken }
         ensures put { ContentPut payload.now self.old.metadata self.new.metadata self.old.journal self.new.journal
@@ -48,7 +48,7 @@ impl Memory {
     pub(crate) fn free_content<D: Disk>(
         &mut self,
         disk: &mut D,
-        slot: u16,
+        slot: u32,
     ) -> Result<(), ChangeFault>
         requires there { IsSome (rec_at self.old.metadata.catalog slot) }
         requires image { shape_of self.old.journal ≡ image_shape self.old.metadata.limits }
@@ -73,9 +73,9 @@ impl Memory {
     fn put_instead<D: Disk>(
         &mut self,
         disk: &mut D,
-        slot: u16,
+        slot: u32,
         payload: &[u8],
-    ) -> Result<ArrayVec<u16, 16>, ChangeFault>
+    ) -> Result<ArrayVec<u32, 16>, ChangeFault>
         requires there { IsSome (rec_at self.old.metadata.catalog slot) }
         requires ready { IsReadyForContent payload.now (stored self.old) (D.meaning disk.old) }
         requires enough { (rec : FileRecord) → rec_at self.old.metadata.catalog slot ≡ Some rec
@@ -99,9 +99,9 @@ impl Memory {
     pub(crate) fn put_anew<D: Disk>(
         &mut self,
         disk: &mut D,
-        slot: Option<u16>,
+        slot: Option<u32>,
         payload: &[u8],
-    ) -> Result<ArrayVec<u16, 16>, ChangeFault>
+    ) -> Result<ArrayVec<u32, 16>, ChangeFault>
         requires sound { AreSound self.old.metadata }
         requires there { IfSome slot (λ slot. IsSome (rec_at self.old.metadata.catalog slot)) }
         requires ready { IsReadyForContent payload.now (stored self.old) (D.meaning disk.old) }
@@ -118,7 +118,7 @@ impl Memory {
 }
 
 /// The block numbers in the slot of a file.
-pub(crate) fn blocks_in(metadata: &Metadata, slot: u16) -> ArrayVec<u16, 16>
+pub(crate) fn blocks_in(metadata: &Metadata, slot: u32) -> ArrayVec<u32, 16>
     requires { IsSome (rec_at metadata.now.catalog slot) }
     ensures { (rec : FileRecord) → rec_at metadata.now.catalog slot ≡ Some rec → result.items ≡ rec.blocks }
 {

@@ -16,7 +16,7 @@ use lis_taxonomy::Search;
 use lis_words::{Test, Word, test_of};
 
 /// Whether there is a file in the slot, and its size meets the test.
-pub(crate) fn is_met_at(metadata: &Metadata, test: Test, slot: u16) -> bool
+pub(crate) fn is_met_at(metadata: &Metadata, test: Test, slot: u32) -> bool
     ensures { result ≡ is_met_at metadata.now (Some test) slot }
 {
     match metadata.rec(slot) {
@@ -26,7 +26,7 @@ pub(crate) fn is_met_at(metadata: &Metadata, test: Test, slot: u16) -> bool
 }
 
 /// Finds the numbers of all that the words of these numbers entail.
-pub(crate) fn find_gained(metadata: &Metadata, numbers: &[u16], search: &mut Search)
+pub(crate) fn find_gained(metadata: &Metadata, numbers: &[u32], search: &mut Search)
     requires sound { AreSound metadata.now }
     requires named { IsTrue (list_all (λ n. is_some (word_of metadata.now.dict n)) numbers.now) }
     ensures { AreGained metadata.now numbers.now search.new }
@@ -35,16 +35,16 @@ pub(crate) fn find_gained(metadata: &Metadata, numbers: &[u16], search: &mut Sea
 }
 
 // How many numbers the description in a slot would have with those that were found.
-fn wider_count(metadata: &Metadata, gained: &Search, slot: u16) -> u32
+fn wider_count(metadata: &Metadata, gained: &Search, slot: u32) -> u32
     requires sound { AreSound metadata.now }
     requires slot { slot < metadata.now.limits.files }
     requires gained { (numbers : List ℕ) × AreGained metadata.now numbers gained.now }
     ensures { result ≡ length (wider metadata.now (is_found gained.now) slot) }
 {
-    let own = metadata.ext().numbers(u32::from(slot));
+    let own = metadata.ext().numbers(slot);
     let mut count = gained.count();
     for number in own {
-        if !gained.has(u32::from(*number)) {
+        if !gained.has(*number) {
             count += 1;
         }
     }
@@ -52,7 +52,7 @@ fn wider_count(metadata: &Metadata, gained: &Search, slot: u16) -> u32
 }
 
 /// Whether the description in a slot would have more than `most` numbers with those that were found.
-pub(crate) fn is_full(metadata: &Metadata, gained: &Search, slot: u16, most: u32) -> bool
+pub(crate) fn is_full(metadata: &Metadata, gained: &Search, slot: u32, most: u32) -> bool
     requires sound { AreSound metadata.now }
     requires slot { slot < metadata.now.limits.files }
     requires gained { (numbers : List ℕ) × AreGained metadata.now numbers gained.now }
@@ -63,7 +63,7 @@ pub(crate) fn is_full(metadata: &Metadata, gained: &Search, slot: u16, most: u32
 }
 
 // Whether a file meets the test, and would have too many words with the test and with what it gains.
-fn is_crowded(metadata: &Metadata, test: Test, gained: &Search, slot: u16) -> bool
+fn is_crowded(metadata: &Metadata, test: Test, gained: &Search, slot: u32) -> bool
     requires sound { AreSound metadata.now }
     requires slot { slot < metadata.now.limits.files }
     requires gained { (numbers : List ℕ) × AreGained metadata.now numbers gained.now }
@@ -79,7 +79,7 @@ fn is_crowded(metadata: &Metadata, test: Test, gained: &Search, slot: u16) -> bo
 pub(crate) fn has_crowded(
     metadata: &Metadata,
     word: &Word,
-    numbers: &[u16],
+    numbers: &[u32],
     search: &mut Search,
 ) -> bool
     requires named { IsTrue (list_all (λ n. is_some (word_of metadata.now.dict n)) numbers.now) }
@@ -91,7 +91,7 @@ pub(crate) fn has_crowded(
     let files = metadata.limits().files;
     find_gained(metadata, numbers, search);
     for slot in 0..files {
-        if is_crowded(metadata, test, search, slot as u16) {
+        if is_crowded(metadata, test, search, slot) {
             return true;
         }
     }

@@ -104,17 +104,17 @@ fn find_draft(metadata: &Metadata, search: &mut Search, draft: Draft) -> Fresh
 }
 
 // Whether a number of the description in a slot is not found, and nothing else uses it.
-fn is_leaving(metadata: &Metadata, found: &Search, slot: u16, number: u16) -> bool
+fn is_leaving(metadata: &Metadata, found: &Search, slot: u32, number: u32) -> bool
     requires sound { AreSound metadata.now }
     requires there { IsSome (rec_at metadata.now.catalog slot) }
     requires named { IsSome (word_of metadata.now.dict number) }
     ensures { result ≡ (not (is_found found.now number) && not (is_used (emptied metadata.now slot) number)) }
 {
-    !found.has(u32::from(number)) && !metadata.is_used_without(slot, number)
+    !found.has(number) && !metadata.is_used_without(slot, number)
 }
 
 // How many numbers of the description in a slot are not found, and nothing else uses them. If no slot is given, none leave.
-fn leaving(metadata: &Metadata, found: &Search, beside: Option<u16>) -> u32
+fn leaving(metadata: &Metadata, found: &Search, beside: Option<u32>) -> u32
     requires sound { AreSound metadata.now }
     requires there { IfSome beside (λ slot. IsSome (rec_at metadata.now.catalog slot)) }
     ensures { result ≡ length (leaving metadata.now found.now beside) }
@@ -135,7 +135,7 @@ fn leaving(metadata: &Metadata, found: &Search, beside: Option<u16>) -> u32
 pub(crate) fn measure(
     metadata: &Metadata,
     search: &mut Search,
-    beside: Option<u16>,
+    beside: Option<u32>,
     draft: Draft,
 ) -> Extent
     requires sound { AreSound metadata.now }

@@ -22,7 +22,7 @@ pub(crate) fn read_file<D: Disk>(
     journal: &Journal,
     disk: &mut D,
     bytes: &mut Buffer,
-    slot: u16,
+    slot: u32,
 ) -> Result<(), Failed>
     requires there { IsSome (rec_at metadata.now.catalog slot) }
     requires image { shape_of journal.now ≡ image_shape metadata.now.limits }

@@ -23,7 +23,7 @@ fn find_word(metadata: &Metadata, word: &Word, search: &mut Search)
     ensures { FindsWords metadata.now (word.now ∷ []) search.old search.new }
 {
     if let Some(number) = metadata.number_of(word) {
-        search.meet(u32::from(number));
+        search.meet(number);
     }
 }
 
@@ -76,7 +76,7 @@ fn find_met(metadata: &Metadata, size: u64, search: &mut Search)
             unreachable!()
         };
         if is_met_word(metadata, &word, size) {
-            search.meet(u32::from(number));
+            search.meet(number);
         }
     }
 }
@@ -100,14 +100,14 @@ pub(crate) fn find_description(
 }
 
 /// The found numbers, in rising order.
-pub(crate) fn numbers_found<const MOST: usize>(search: &Search) -> ArrayVec<u16, MOST>
+pub(crate) fn numbers_found<const MOST: usize>(search: &Search) -> ArrayVec<u32, MOST>
     requires { (props : ℕ) × AreBelow props search.now × (length (numbers_where props (is_found search.now)) ≤ MOST) }
     ensures { (props : ℕ) → AreBelow props search.now → result.items ≡ numbers_where props (is_found search.now) }
 {
     let mut numbers = ArrayVec::new();
     let mut start = 0;
     while let Some(number) = search.next(start) {
-        numbers.push(number as u16);
+        numbers.push(number);
         start = number + 1;
     }
     numbers

@@ -28,7 +28,7 @@ use lis_taxonomy::Search;
 use lis_words::{Name, Word, is_builtin};
 
 // Puts the word of a number into a set of words, if there is one.
-fn put_number(metadata: &Metadata, words: &mut ArrayVec<Word, 16>, number: u16) -> bool
+fn put_number(metadata: &Metadata, words: &mut ArrayVec<Word, 16>, number: u32) -> bool
     requires { length words.old.items ≤ MAX_ASSIGNED }
     ensures { Takes (option_to_list (word_of metadata.now.dict number)) words.old.items words.new.items result }
 {
@@ -39,7 +39,7 @@ fn put_number(metadata: &Metadata, words: &mut ArrayVec<Word, 16>, number: u16) 
 }
 
 // The words that have these numbers.
-fn words_of(metadata: &Metadata, numbers: &[u16]) -> ArrayVec<Word, 16>
+fn words_of(metadata: &Metadata, numbers: &[u32]) -> ArrayVec<Word, 16>
     requires { length numbers.now ≤ MAX_ASSIGNED }
     ensures words { result.items ≡ words_told metadata.now.dict numbers.now }
     ensures few { length result.items ≤ MAX_ASSIGNED }
@@ -52,7 +52,7 @@ fn words_of(metadata: &Metadata, numbers: &[u16]) -> ArrayVec<Word, 16>
 }
 
 /// The words that are assigned to the file in a slot.
-pub(crate) fn assigned_in(metadata: &Metadata, slot: u16) -> ArrayVec<Word, 16>
+pub(crate) fn assigned_in(metadata: &Metadata, slot: u32) -> ArrayVec<Word, 16>
     requires { IsSome (rec_at metadata.now.catalog slot) }
     ensures words { (rec : FileRecord) → rec_at metadata.now.catalog slot ≡ Some rec → result.items ≡ words_told metadata.now.dict rec.tags }
     ensures few { length result.items ≤ MAX_ASSIGNED }
@@ -64,7 +64,7 @@ pub(crate) fn assigned_in(metadata: &Metadata, slot: u16) -> ArrayVec<Word, 16>
 }
 
 /// How many bytes the file in a slot has.
-pub(crate) fn size_in(metadata: &Metadata, slot: u16) -> u64
+pub(crate) fn size_in(metadata: &Metadata, slot: u32) -> u64
     requires { IsSome (rec_at metadata.now.catalog slot) }
     ensures { (rec : FileRecord) → rec_at metadata.now.catalog slot ≡ Some rec → result ≡ rec.size }
 {
@@ -75,7 +75,7 @@ pub(crate) fn size_in(metadata: &Metadata, slot: u16) -> u64
 }
 
 // The word of a number, if it is built in.
-fn own_word(metadata: &Metadata, number: u16) -> Option<Word>
+fn own_word(metadata: &Metadata, number: u32) -> Option<Word>
     ensures { option_to_list result ≡ own_word metadata.now number }
 {
     let Some(word) = metadata.word_of(number) else {
@@ -88,7 +88,7 @@ fn own_word(metadata: &Metadata, number: u16) -> Option<Word>
 }
 
 // The built-in words that have these numbers.
-fn own_among(metadata: &Metadata, numbers: &[u16]) -> ArrayVec<Word, MAX_DESCRIPTION>
+fn own_among(metadata: &Metadata, numbers: &[u32]) -> ArrayVec<Word, MAX_DESCRIPTION>
     requires { length numbers.now ≤ MAX_DESCRIPTION }
     ensures words { result.items ≡ flat_map (own_word metadata.now) numbers.now }
     ensures few { length result.items ≤ MAX_DESCRIPTION }
@@ -103,7 +103,7 @@ fn own_among(metadata: &Metadata, numbers: &[u16]) -> ArrayVec<Word, MAX_DESCRIP
 }
 
 /// The derived words of the file in a slot and their heads, taken from its description.
-pub(crate) fn own_in(metadata: &Metadata, slot: u16) -> ArrayVec<Word, MAX_DESCRIPTION>
+pub(crate) fn own_in(metadata: &Metadata, slot: u32) -> ArrayVec<Word, MAX_DESCRIPTION>
     requires there { IsSome (rec_at metadata.now.catalog slot) }
     requires short { DescriptionsAreShort metadata.now }
     ensures own { result.items ≡ own_kept metadata.now slot }
@@ -113,7 +113,7 @@ pub(crate) fn own_in(metadata: &Metadata, slot: u16) -> ArrayVec<Word, MAX_DESCR
 }
 
 // How many blocks are free for new bytes of the file in a slot.
-fn free_instead(metadata: &Metadata, slot: u16) -> u64
+fn free_instead(metadata: &Metadata, slot: u32) -> u64
     requires { IsSome (rec_at metadata.now.catalog slot) }
     ensures { (rec : FileRecord) → rec_at metadata.now.catalog slot ≡ Some rec → result ≡ free_instead metadata.now rec }
 {
@@ -128,7 +128,7 @@ fn free_instead(metadata: &Metadata, slot: u16) -> u64
 pub(crate) fn may_stand_instead(
     metadata: &Metadata,
     search: &mut Search,
-    slot: u16,
+    slot: u32,
     draft: Draft,
 ) -> Result<(), Refusal>
     requires there { IsSome (rec_at metadata.now.catalog slot) }
@@ -157,7 +157,7 @@ pub(crate) fn may_stand_instead(
 fn has_room_instead(
     metadata: &Metadata,
     search: &mut Search,
-    slot: u16,
+    slot: u32,
     name: &Name,
     words: &[Word],
     payload: &[u8],
@@ -184,7 +184,7 @@ fn has_room_instead(
 pub(crate) fn may_write(
     metadata: &Metadata,
     search: &mut Search,
-    slot: u16,
+    slot: u32,
     name: &Name,
     payload: &[u8],
     size: u64,
@@ -210,7 +210,7 @@ pub(crate) fn may_write(
 pub(crate) fn may_rename(
     metadata: &Metadata,
     search: &mut Search,
-    slot: u16,
+    slot: u32,
     other: &Name,
     payload: &[u8],
 ) -> Result<FileWords, Refusal>

@@ -28,7 +28,7 @@ fn may_place(
     metadata: &Metadata,
     place: &Place,
     word: &Word,
-) -> Result<ArrayVec<u16, MAX_NODES>, Refusal>
+) -> Result<ArrayVec<u32, MAX_NODES>, Refusal>
     requires sound { AreSound metadata.now }
     ensures row { Judges (place_checks metadata.now place.now word.now) result }
     ensures form { OnOk result (IsTrue (is_declarable word.now)) }
@@ -59,7 +59,7 @@ fn may_place(
 fn has_room(
     metadata: &Metadata,
     word: &Word,
-    numbers: &[u16],
+    numbers: &[u32],
     search: &mut Search,
 ) -> Result<(), Refusal>
     requires named { IsTrue (list_all (λ n. is_some (word_of metadata.now.dict n)) numbers.now) }
@@ -85,7 +85,7 @@ pub(crate) fn may_declare(
     place: &Place,
     word: &Word,
     search: &mut Search,
-) -> Result<ArrayVec<u16, MAX_NODES>, Refusal>
+) -> Result<ArrayVec<u32, MAX_NODES>, Refusal>
     requires sound { AreSound metadata.now }
     ensures row { Judges (word_checks metadata.now place.now word.now) result }
     ensures word { IsTrue (is_property word.now) }
@@ -98,7 +98,7 @@ pub(crate) fn may_declare(
 }
 
 /// The number of a word whose declaration may be removed.
-pub(crate) fn may_undeclare(metadata: &Metadata, word: &Word) -> Result<u16, Refusal>
+pub(crate) fn may_undeclare(metadata: &Metadata, word: &Word) -> Result<u32, Refusal>
     requires sound { AreSound metadata.now }
     ensures row { Judges (undeclare_checks metadata.now word.now) result }
     ensures may { IfOk result (λ number. IsUndeclarable metadata.now word.now number) }

@@ -13,7 +13,7 @@ use lis_taxonomy::Search;
 use lis_words::head_of;
 
 // A left side, and its head.
-fn with_head(metadata: &Metadata, left: u16) -> ArrayVec<u16, 2>
+fn with_head(metadata: &Metadata, left: u32) -> ArrayVec<u32, 2>
     requires { IsSome (word_of metadata.now.dict left) }
     ensures { result.items ≡ with_head metadata.now.dict left }
 {
@@ -32,7 +32,7 @@ fn with_head(metadata: &Metadata, left: u16) -> ArrayVec<u16, 2>
 }
 
 /// Removes an axiom, with all that descriptions have by it alone, and with the words that nothing uses any more.
-pub(crate) fn take_axiom(metadata: &mut Metadata, left: u16, right: u16, search: &mut Search)
+pub(crate) fn take_axiom(metadata: &mut Metadata, left: u32, right: u32, search: &mut Search)
     requires form { AreInForm metadata.old }
     requires may { MayUnlink left right metadata.old }
     ensures { TakesAxiom left right metadata.old metadata.new }

@@ -9,7 +9,7 @@ use crate::store::Store;
 
 impl Store {
     /// How many bytes the file in a slot has.
-    pub fn file_size(&self, slot: u16) -> u32
+    pub fn file_size(&self, slot: u32) -> u32
         requires { (name : List ℕ) × (slot_of self.now.metadata.catalog name ≡ Some slot) }
         ensures size { IsSomeAnd (rec_at self.now.metadata.catalog slot) (λ (rec : FileRecord). result ≡ rec.size) }
         ensures sound { IsSound self.now }

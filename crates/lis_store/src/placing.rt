@@ -45,7 +45,7 @@ pub(crate) fn has_plain_words(place: &Place) -> bool
 }
 
 // The number of a word, if it is declared.
-fn declared_number(metadata: &Metadata, word: &Word) -> Option<u16>
+fn declared_number(metadata: &Metadata, word: &Word) -> Option<u32>
     ensures { result ≡ declared_number metadata.now word.now }
 {
     if !metadata.is_declared(word) {
@@ -55,14 +55,14 @@ fn declared_number(metadata: &Metadata, word: &Word) -> Option<u16>
 }
 
 // Whether the number is one of these.
-fn has_number(numbers: &[u16], number: u16) -> bool
+fn has_number(numbers: &[u32], number: u32) -> bool
     ensures { result ≡ has_number numbers.now number }
 {
     numbers.iter().any(|held| *held == number)
 }
 
 // Adds the number of a word to the others, if the word is declared. The result says whether it is.
-fn take_number(metadata: &Metadata, numbers: &mut ArrayVec<u16, MAX_NODES>, word: &Word) -> bool
+fn take_number(metadata: &Metadata, numbers: &mut ArrayVec<u32, MAX_NODES>, word: &Word) -> bool
     requires sound { AreSound metadata.now }
     requires room { length numbers.old.items < MAX_NODES }
     ensures { TakesNumbers metadata.now (word.now ∷ []) numbers.old.items numbers.new.items result }
@@ -78,7 +78,7 @@ fn take_number(metadata: &Metadata, numbers: &mut ArrayVec<u16, MAX_NODES>, word
 }
 
 // Adds the number of a node's word to the others, if the word is declared. The result says whether it is.
-fn take_node(metadata: &Metadata, numbers: &mut ArrayVec<u16, MAX_NODES>, node: &Node) -> bool
+fn take_node(metadata: &Metadata, numbers: &mut ArrayVec<u32, MAX_NODES>, node: &Node) -> bool
     requires sound { AreSound metadata.now }
     requires room { length numbers.old.items < MAX_NODES }
     ensures { TakesNumbers metadata.now (node_words node.now) numbers.old.items numbers.new.items result }
@@ -90,7 +90,7 @@ fn take_node(metadata: &Metadata, numbers: &mut ArrayVec<u16, MAX_NODES>, node: 
 }
 
 /// The numbers of the words of the place, each once. The result is `None` exactly if some word is not declared.
-pub(crate) fn place_numbers(metadata: &Metadata, place: &Place) -> Option<ArrayVec<u16, MAX_NODES>>
+pub(crate) fn place_numbers(metadata: &Metadata, place: &Place) -> Option<ArrayVec<u32, MAX_NODES>>
     requires sound { AreSound metadata.now }
     requires place { IsSome (place_words place.now) }
     ensures numbers { MatchOption result (list_all (is_declared metadata.now) (words_at place.now) ≡ false)

@@ -78,7 +78,7 @@ fn is_nameable(metadata: &Metadata, word: &Word) -> bool
 }
 
 /// The numbers of the two words of an axiom, if there is this axiom.
-pub(crate) fn axiom_numbers(metadata: &Metadata, left: &Word, right: &Word) -> Option<(u16, u16)>
+pub(crate) fn axiom_numbers(metadata: &Metadata, left: &Word, right: &Word) -> Option<(u32, u32)>
     requires sound { AreSound metadata.now }
     ensures there { is_some result ≡ has_axiom (axioms_of metadata.now) (left.now, right.now) }
     ensures numbers { IfSome result (λ pair. IsAxiomAt metadata.now left.now right.now pair.0 pair.1) }
@@ -96,7 +96,7 @@ pub(crate) fn axiom_numbers(metadata: &Metadata, left: &Word, right: &Word) -> O
 }
 
 // Whether a word that has a number entails the other word.
-fn leads(metadata: &Metadata, number: u16, word: &Word, other: &Word, search: &mut Search) -> bool
+fn leads(metadata: &Metadata, number: u32, word: &Word, other: &Word, search: &mut Search) -> bool
     requires sound { AreSound metadata.now }
     requires number { number_of metadata.now.dict word.now ≡ Some number }
     ensures { result ≡ entails_word metadata.now word.now other.now }
@@ -104,9 +104,7 @@ fn leads(metadata: &Metadata, number: u16, word: &Word, other: &Word, search: &m
     let Some(to) = metadata.number_of(other) else {
         return false;
     };
-    metadata
-        .taxonomy()
-        .entails(u32::from(number), u32::from(to), search)
+    metadata.taxonomy().entails(number, to, search)
 }
 
 // How many numbers a word still needs.
@@ -132,7 +130,7 @@ fn lacked_with_head(metadata: &Metadata, word: &Word) -> u32
 }
 
 // Whether the description in a slot has the left number, and would have too many words with those that were found.
-fn is_overfull(metadata: &Metadata, gained: &Search, slot: u16, left: u16) -> bool
+fn is_overfull(metadata: &Metadata, gained: &Search, slot: u32, left: u32) -> bool
     requires sound { AreSound metadata.now }
     requires slot { slot < metadata.now.limits.files }
     requires left { IsSome (word_of metadata.now.dict left) }
@@ -140,7 +138,7 @@ fn is_overfull(metadata: &Metadata, gained: &Search, slot: u16, left: u16) -> bo
     ensures { (numbers : List ℕ) → AreGained metadata.now numbers gained.now
         → result ≡ (has metadata.now.ext left slot && nat_lt MAX_DESCRIPTION (length (wider metadata.now (is_gained metadata.now numbers) slot))) }
 {
-    if !metadata.ext().has(u32::from(left), u32::from(slot)) {
+    if !metadata.ext().has(left, slot) {
         return false;
     }
     is_full(metadata, gained, slot, MAX_DESCRIPTION as u32)
@@ -151,7 +149,7 @@ fn has_overfull(
     metadata: &Metadata,
     left: &Word,
     right: &Word,
-    number: u16,
+    number: u32,
     search: &mut Search,
 ) -> bool
     requires sound { AreSound metadata.now }
@@ -164,7 +162,7 @@ fn has_overfull(
     let files = metadata.limits().files;
     find_gained(metadata, &[number], search);
     for slot in 0..files {
-        if is_overfull(metadata, search, slot as u16, from) {
+        if is_overfull(metadata, search, slot, from) {
             return true;
         }
     }
@@ -177,7 +175,7 @@ fn may_pair(
     left: &Word,
     right: &Word,
     search: &mut Search,
-) -> Result<u16, Refusal>
+) -> Result<u32, Refusal>
     requires sound { AreSound metadata.now }
     ensures row { Judges (pair_checks metadata.now left.now right.now) result }
     ensures number { IfOk result (λ number. number_of metadata.now.dict right.now ≡ Some number) }
@@ -205,7 +203,7 @@ fn has_room(
     metadata: &Metadata,
     left: &Word,
     right: &Word,
-    number: u16,
+    number: u32,
     search: &mut Search,
 ) -> Result<(), Refusal>
     requires sound { AreSound metadata.now }

@@ -13,7 +13,7 @@ use lis_kept::Metadata;
 use lis_limits::MAX_DESCRIPTION;
 
 // The numbers of the description of the file in a slot, as a separate value.
-fn numbers_at(metadata: &Metadata, slot: u16) -> ArrayVec<u16, MAX_DESCRIPTION>
+fn numbers_at(metadata: &Metadata, slot: u32) -> ArrayVec<u32, MAX_DESCRIPTION>
     requires { IsSome (rec_at metadata.now.catalog slot) }
     ensures numbers { result.items ≡ set_of metadata.now.ext slot }
     ensures rising { IsStrictlyIncreasing (set_of metadata.now.ext slot) }
@@ -26,7 +26,7 @@ fn numbers_at(metadata: &Metadata, slot: u16) -> ArrayVec<u16, MAX_DESCRIPTION>
 }
 
 /// Removes the file from its slot, and the words that nothing else uses. The slot keeps its description, whose numbers are returned.
-pub(crate) fn unfile(metadata: &mut Metadata, slot: u16) -> ArrayVec<u16, MAX_DESCRIPTION>
+pub(crate) fn unfile(metadata: &mut Metadata, slot: u32) -> ArrayVec<u32, MAX_DESCRIPTION>
     requires form { AreInForm metadata.old }
     requires there { IsSome (rec_at metadata.old.catalog slot) }
     ensures vacated { (rec : FileRecord) → rec_at metadata.old.catalog slot ≡ Some rec → Vacates slot rec metadata.old metadata.new }
@@ -39,7 +39,7 @@ pub(crate) fn unfile(metadata: &mut Metadata, slot: u16) -> ArrayVec<u16, MAX_DE
 }
 
 /// Removes the file from its slot, with its description and the words that nothing else uses. Its blocks are freed already.
-pub(crate) fn take_out(metadata: &mut Metadata, slot: u16)
+pub(crate) fn take_out(metadata: &mut Metadata, slot: u32)
     requires form { AreInForm metadata.old }
     requires there { IsSome (rec_at metadata.old.catalog slot) }
     ensures { (rec : FileRecord) → rec_at metadata.old.catalog slot ≡ Some rec → TakesOut slot rec metadata.old metadata.new }

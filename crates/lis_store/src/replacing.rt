@@ -23,15 +23,15 @@ use lis_words::Name;
 // The numbers of the words that are assigned to a file, and those of its description.
 #[derive(Drop)]
 struct Numbers {
-    tags: ArrayVec<u16, 16>,
-    all: ArrayVec<u16, MAX_DESCRIPTION>,
+    tags: ArrayVec<u32, 16>,
+    all: ArrayVec<u32, MAX_DESCRIPTION>,
 }
 
 // A slot without a file, and the numbers of its description.
 #[derive(Drop)]
 struct NewSlot {
-    slot: u16,
-    numbers: ArrayVec<u16, MAX_DESCRIPTION>,
+    slot: u32,
+    numbers: ArrayVec<u32, MAX_DESCRIPTION>,
 }
 
 // Gives numbers to those words of a file that have none, and answers the numbers of its words.
@@ -49,7 +49,7 @@ fn learn_own(metadata: &mut Metadata, search: &mut Search, draft: Draft) -> Numb
 }
 
 // A slot without a file.
-fn free_slot(metadata: &Metadata) -> u16
+fn free_slot(metadata: &Metadata) -> u32
     requires sound { AreSound metadata.now }
     requires room { length metadata.now.catalog.entries < metadata.now.limits.files }
     ensures below { result < metadata.now.limits.files }
@@ -57,15 +57,15 @@ fn free_slot(metadata: &Metadata) -> u16
 {
     let files = metadata.limits().files;
     for slot in 0..files {
-        if metadata.rec(slot as u16).is_none() {
-            return slot as u16;
+        if metadata.rec(slot).is_none() {
+            return slot;
         }
     }
     unreachable!()
 }
 
 // Makes room for a file: in the slot if one is given, whose file is removed, or in a free slot.
-fn make_room(metadata: &mut Metadata, slot: Option<u16>) -> NewSlot
+fn make_room(metadata: &mut Metadata, slot: Option<u32>) -> NewSlot
     requires form { AreInForm metadata.old }
     requires free { slot ≡ None → length metadata.old.catalog.entries < metadata.old.limits.files }
     requires there { IfSome slot (λ slot. IsSome (rec_at metadata.old.catalog slot)) }
@@ -92,7 +92,7 @@ fn settle_in(
     search: &mut Search,
     new_slot: &NewSlot,
     draft: Draft,
-    blocks: ArrayVec<u16, 16>,
+    blocks: ArrayVec<u32, 16>,
 )
     requires vacant { IsVacant new_slot.now.slot new_slot.now.numbers.items metadata.old }
     requires may { MayComeIn metadata.old (drafted draft.name.now draft.size draft.assigned.now draft.own.now) }
@@ -118,9 +118,9 @@ fn settle_in(
 pub(crate) fn replace_draft(
     metadata: &mut Metadata,
     search: &mut Search,
-    slot: Option<u16>,
+    slot: Option<u32>,
     draft: Draft,
-    blocks: ArrayVec<u16, 16>,
+    blocks: ArrayVec<u32, 16>,
 )
     requires form { AreInForm metadata.old }
     requires may { MayPut metadata.old slot (drafted draft.name.now draft.size draft.assigned.now draft.own.now) }
@@ -137,11 +137,11 @@ pub(crate) fn replace_draft(
 pub(crate) fn replace_record(
     metadata: &mut Metadata,
     search: &mut Search,
-    slot: Option<u16>,
+    slot: Option<u32>,
     name: &Name,
     words: &FileWords,
     payload: &[u8],
-    blocks: ArrayVec<u16, 16>,
+    blocks: ArrayVec<u32, 16>,
 )
     requires form { AreInForm metadata.old }
     requires derived { words.now.derived ≡ derived_words name.now payload.now }

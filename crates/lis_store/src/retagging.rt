@@ -155,7 +155,7 @@ fn retagged(words: &[Word], here: &Place, there: &Place) -> Option<ArrayVec<Word
 // than 16.
 fn words_moved(
     metadata: &Metadata,
-    slot: u16,
+    slot: u32,
     here: &Place,
     there: &Place,
 ) -> Option<ArrayVec<Word, 16>>
@@ -196,7 +196,7 @@ fn may_lead(metadata: &Metadata, here: &Place, there: &Place, text: &Text) -> Re
 /// bytes are.
 pub(crate) fn may_move(
     metadata: &Metadata,
-    slot: u16,
+    slot: u32,
     here: &Place,
     there: &Place,
     text: &Text,

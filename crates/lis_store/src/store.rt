@@ -205,7 +205,7 @@ impl Store {
     pub fn content<D: Disk>(
         &self,
         disk: &mut D,
-        slot: u16,
+        slot: u32,
         n: u32,
         buf: &mut [u8],
     ) -> Result<(), Failed>
@@ -232,7 +232,7 @@ impl Store {
     }
 
     /// Reads the index block of a file, if it has one. Callers pass it to `content_by`.
-    pub fn index<D: Disk>(&self, disk: &mut D, slot: u16, index: &mut [u8]) -> Result<(), Failed>
+    pub fn index<D: Disk>(&self, disk: &mut D, slot: u32, index: &mut [u8]) -> Result<(), Failed>
         requires some { IsSomeAnd (rec_at self.now.metadata.catalog slot) (λ (rec : FileRecord). 0 < rec.size) }
         requires whole { length index.old ≡ BLOCK_LEN }
         requires usable { IsUsable self.now (D.meaning disk.old) }
@@ -258,7 +258,7 @@ impl Store {
     pub fn content_by<D: Disk>(
         &self,
         disk: &mut D,
-        slot: u16,
+        slot: u32,
         index: &[u8],
         n: u32,
         buf: &mut [u8],
@@ -288,7 +288,7 @@ impl Store {
     }
 
     /// The slot of the file of that name, if the file is in the extension of the place.
-    pub fn slot_here(&self, scratch: &mut Scratch, place: &Place, name: &Name) -> Option<u16>
+    pub fn slot_here(&self, scratch: &mut Scratch, place: &Place, name: &Name) -> Option<u32>
         requires { HasRoom scratch.old self.now.metadata.limits }
         ensures room { HasRoom scratch.new self.now.metadata.limits }
         ensures here { is_some result ≡ is_among self.now.metadata place.now name.now }
@@ -314,23 +314,23 @@ impl View for Store {
 
     ghost rows = { λ s. s.metadata.ext };
 
-    fn id_of(&self, word: &Word) -> Option<u16> {
+    fn id_of(&self, word: &Word) -> Option<u32> {
         self.memory.metadata.number_of(word)
     }
 
-    fn word_at(&self, k: u32) -> Option<(Word, u16)> {
+    fn word_at(&self, k: u32) -> Option<(Word, u32)> {
         self.memory.metadata.word_at(k)
     }
 
-    fn slot_of(&self, name: &Name) -> Option<u16> {
+    fn slot_of(&self, name: &Name) -> Option<u32> {
         self.memory.metadata.slot_of(name)
     }
 
-    fn file_at(&self, k: u32) -> Option<(Name, u16)> {
+    fn file_at(&self, k: u32) -> Option<(Name, u32)> {
         self.memory.metadata.file_at(k)
     }
 
-    fn size_of(&self, slot: u16) -> u64 {
+    fn size_of(&self, slot: u32) -> u64 {
         match self.memory.metadata.rec(slot) {
             None => 0,
             Some(rec) => u64::from(rec.size),

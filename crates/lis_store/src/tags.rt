@@ -12,7 +12,7 @@ use lis_words::Word;
 
 impl Store {
     /// The words that are assigned to the file in a slot, in byte order.
-    pub fn tags(&self, slot: u16) -> ArrayVec<Word, 16>
+    pub fn tags(&self, slot: u32) -> ArrayVec<Word, 16>
         requires { IsSome (rec_at self.now.metadata.catalog slot) }
         ensures { IsSomeAnd (rec_at self.now.metadata.catalog slot)
             (λ (rec : FileRecord). result.items ≡ words_told self.now.metadata.dict rec.tags) }

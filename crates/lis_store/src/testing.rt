@@ -22,7 +22,7 @@ use lis_words::{Word, test_of};
 pub(crate) fn declare_tested(
     metadata: &mut Metadata,
     word: &Word,
-    places: &[u16],
+    places: &[u32],
     search: &mut Search,
 )
     requires form { AreInForm metadata.old }
@@ -40,7 +40,7 @@ pub(crate) fn declare_tested(
 }
 
 // The numbers except one.
-fn numbers_without(numbers: &[u16], number: u16) -> ArrayVec<u16, MAX_DESCRIPTION>
+fn numbers_without(numbers: &[u32], number: u32) -> ArrayVec<u32, MAX_DESCRIPTION>
     requires { length numbers.now ≤ MAX_DESCRIPTION }
     ensures { result.items ≡ filter (λ n. not (n == number)) numbers.now }
 {
@@ -54,7 +54,7 @@ fn numbers_without(numbers: &[u16], number: u16) -> ArrayVec<u16, MAX_DESCRIPTIO
 }
 
 // Removes a number from the description in a slot.
-fn describe_without(metadata: &mut Metadata, number: u16, slot: u16)
+fn describe_without(metadata: &mut Metadata, number: u32, slot: u32)
     requires sound { AreSound metadata.old }
     requires number { IsSome (word_of metadata.old.dict number) }
     requires slot { slot < metadata.old.limits.files }
@@ -63,16 +63,16 @@ fn describe_without(metadata: &mut Metadata, number: u16, slot: u16)
     ensures gives { SlotHas slot (without_number metadata.old number slot) metadata.old metadata.new }
     ensures sound { AreSound metadata.new }
 {
-    if !metadata.ext().has(u32::from(number), u32::from(slot)) {
+    if !metadata.ext().has(number, slot) {
         return;
     }
-    let old = metadata.ext().numbers(u32::from(slot));
+    let old = metadata.ext().numbers(slot);
     let new = numbers_without(old, number);
     metadata.describe(slot, new.as_slice());
 }
 
 // Removes a number from all descriptions.
-fn describe_all_without(metadata: &mut Metadata, number: u16)
+fn describe_all_without(metadata: &mut Metadata, number: u32)
     requires number { IsSome (word_of metadata.old.dict number) }
     requires free { FreeSlotsAreEmpty metadata.old }
     requires short { DescriptionsAreShort metadata.old }
@@ -81,12 +81,12 @@ fn describe_all_without(metadata: &mut Metadata, number: u16)
 {
     let files = metadata.limits().files;
     for slot in 0..files {
-        describe_without(metadata, number, slot as u16);
+        describe_without(metadata, number, slot);
     }
 }
 
 /// Removes the declaration of a word, and its number from all descriptions.
-pub(crate) fn undeclare_unmet(metadata: &mut Metadata, number: u16)
+pub(crate) fn undeclare_unmet(metadata: &mut Metadata, number: u32)
     requires form { AreInForm metadata.old }
     requires number { IsSome (word_of metadata.old.dict number) }
     requires may { MayUndeclare number (undescribed metadata.old) }

@@ -42,7 +42,7 @@ impl Metadata {
         journal: &mut Journal,
         disk: &mut D,
         bytes: &[u8],
-    ) -> Result<ArrayVec<u16, 16>, Failed>
+    ) -> Result<ArrayVec<u32, 16>, Failed>
         requires short { length bytes.now ≤ file_limit self.old.limits.version }
         requires enough { blocks_taken self.old.limits.version (length bytes.now) ≤ free_count self.old.taken }
         requires image { shape_of journal.old ≡ image_shape self.old.limits }
@@ -76,7 +76,7 @@ impl Metadata {
         &mut self,
         journal: &Journal,
         disk: &mut D,
-        slot: u16,
+        slot: u32,
     ) -> Result<(), Failed>
         requires there { IsSome (rec_at self.old.catalog slot) }
         requires image { shape_of journal.now ≡ image_shape self.old.limits }

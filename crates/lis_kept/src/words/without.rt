@@ -12,23 +12,22 @@ use crate::metadata::Metadata;
 use lis_ext::Ext;
 
 // Whether the description in a slot, if there is such a slot, has a number.
-fn has_at(ext: &Ext, slot: u16, number: u16) -> bool
+fn has_at(ext: &Ext, slot: u32, number: u32) -> bool
     requires { number < ext.now.props }
     ensures { result ≡ has ext.now number slot }
 {
-    let slot = u32::from(slot);
     if slot >= ext.files() {
         return false;
     }
-    ext.has(u32::from(number), slot)
+    ext.has(number, slot)
 }
 
 // Whether the description of a file in another slot has a number.
-pub(crate) fn is_had_without(ext: &Ext, slot: u16, number: u16) -> bool
+pub(crate) fn is_had_without(ext: &Ext, slot: u32, number: u32) -> bool
     requires { number < ext.now.props }
     ensures { result ≡ is_had (record ext.now { sets = slice_set ext.now.sets slot [] }) number }
 {
-    let count = ext.count(u32::from(number));
+    let count = ext.count(number);
     if has_at(ext, slot, number) {
         return count > 1;
     }
@@ -37,7 +36,7 @@ pub(crate) fn is_had_without(ext: &Ext, slot: u16, number: u16) -> bool
 
 impl Metadata {
     /// Whether a number is in use without the description in a slot.
-    pub fn is_used_without(&self, slot: u16, number: u16) -> bool
+    pub fn is_used_without(&self, slot: u32, number: u32) -> bool
         requires { IsSome (word_of self.now.dict number) }
         ensures { result ≡ is_used (emptied self.now slot) number }
     {
@@ -45,7 +44,7 @@ impl Metadata {
     }
 
     /// Forgets the words of those numbers that nothing uses except the description in a slot without a file.
-    pub fn forget_without(&mut self, slot: u16, numbers: &[u16])
+    pub fn forget_without(&mut self, slot: u32, numbers: &[u32])
         requires slot { slot < self.old.limits.files }
         requires empty { rec_at self.old.catalog slot ≡ None }
         requires may { MayForget numbers.now (emptied self.old slot) }
