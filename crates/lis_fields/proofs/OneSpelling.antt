@@ -15,7 +15,7 @@ use Rattle.lis_fields.specs.declared.slots.AxiomSlot.TheVariants.{Free as FreeAx
 use Rattle.lis_fields.specs.declared.slots.FileSlot.{FileSlot}
 use Rattle.lis_fields.specs.declared.slots.FileSlot.TheVariants.{Free as FreeFile, Used}
 use Rattle.lis_fields.proofs.Widths.{front_is, same_number}
-use Rattle.lis_fields.proofs.Shorts.{shorts, length_shorts, same_shorts}
+use Rattle.lis_fields.proofs.TwoBytes.{shorts, length_shorts, same_shorts}
 use Rattle.lis_words.proofs.Tests.{property_short}
 use Rattle.lis_fields.proofs.Texts.{name_short}
 use Rattle.lis_fields.proofs.Pairs.{left_number, right_number, axiom_spelled, axiom_fits}

@@ -14,7 +14,7 @@ use Rattle.lis_fields.specs.declared.slots.FileSlot.{FileSlot}
 use Rattle.lis_fields.specs.declared.slots.FileSlot.TheVariants.{Free as FreeFile, Used}
 use Rattle.lis_fields.proofs.Widths.{front_is, behind_is, joined, length_zeros}
 use Rattle.lis_fields.proofs.Texts.{length_text, name_short}
-use Rattle.lis_fields.proofs.Shorts.{shorts, length_shorts}
+use Rattle.lis_fields.proofs.TwoBytes.{shorts, length_shorts}
 use Rattle.lis_model.specs.Sets.{are_distinct, are_short}
 
 pub same_found : {A B : Type 0} (a c : A) (b d : B) → ◌≡◌ {A = Option (A × B)} (Some (a, b)) (Some (c, d)) → (a ≡ c) × (b ≡ d)

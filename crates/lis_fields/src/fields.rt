@@ -6,7 +6,7 @@ ghost use Rattle.byteorder.specs.Endian.{little_bytes};
 ghost use Rattle.lis_fields.specs.Layouts.{text_bytes, zeros, numbers};
 ghost use Rattle.lis_model.specs.Sets.{are_short};
 
-use crate::shorts::{read_shorts, write_shorts};
+use crate::numbers::{read_shorts, write_shorts};
 use arrayvec::ArrayVec;
 use byteorder::{ByteOrder, LittleEndian};
 use lis_limits::MAX_WORD;

@@ -4,15 +4,15 @@
 mod axioms;
 mod fields;
 mod files;
+mod numbers;
 mod props;
-mod shorts;
 mod slots;
 mod super_block;
 
 pub use axioms::{read_axiom, write_axiom};
 pub use fields::are_zeros;
 pub use files::{read_file, write_file};
+pub use numbers::{read_shorts, write_shorts};
 pub use props::{read_prop, write_prop};
-pub use shorts::{read_shorts, write_shorts};
 pub use slots::{AxiomSlot, FileRec, FileSlot, PropSlot};
 pub use super_block::{read_super, write_super};

@@ -7,6 +7,9 @@ ghost use Rattle.lis_model.specs.Sets.{are_short};
 
 use byteorder::{ByteOrder, LittleEndian};
 
+// How many numbers two bytes can hold.
+const SHORTS: u32 = 65_536;
+
 /// Reads as many numbers as there is room for.
 pub fn read_shorts(bytes: &[u8], numbers: &mut [u32])
     requires { length bytes.now ≡ 2 * length numbers.old }
@@ -25,6 +28,6 @@ pub fn write_shorts(numbers: &[u32], bytes: &mut [u8])
     ensures { bytes.new ≡ flat_map (little_bytes 2) numbers.now }
 {
     for (k, number) in numbers.iter().enumerate() {
-        LittleEndian::write_u16(&mut bytes[2 * k..], *number as u16);
+        LittleEndian::write_u16(&mut bytes[2 * k..2 * k + 2], (*number % SHORTS) as u16);
     }
 }
