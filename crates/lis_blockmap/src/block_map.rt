@@ -152,7 +152,7 @@ impl BlockMap {
         ensures differs { IfSome result (IsFirstDifference bytes.now self.now) }
     {
         for n in 0..BLOCK_BITS {
-            if has_bit(bytes, n) != self.tells(n) {
+            if has_bit(bytes, n) != self.is_taken(n) {
                 return Some(n);
             }
         }
