@@ -86,7 +86,10 @@ impl BlockMap {
     pub fn is_taken(&self, n: u32) -> bool
         ensures { result ≡ is_taken self.now n }
     {
-        self.tells(n)
+        if n >= self.blocks {
+            return false;
+        }
+        !self.rows.get(0, n)
     }
 
     /// Takes a free block, if there is one.
@@ -149,7 +152,7 @@ impl BlockMap {
         ensures differs { IfSome result (IsFirstDifference bytes.now self.now) }
     {
         for n in 0..BLOCK_BITS {
-            if has_bit(bytes, n) != self.tells(n) {
+            if has_bit(bytes, n) != self.is_taken(n) {
                 return Some(n);
             }
         }
@@ -179,18 +182,8 @@ impl BlockMap {
         }
         let mut byte = 0;
         for i in 0..8 {
-            byte = 2 * byte + u8::from(self.tells(8 * k + 7 - i));
+            byte = 2 * byte + u8::from(self.is_taken(8 * k + 7 - i));
         }
         byte
-    }
-
-    // Whether there is such a block, and it is taken.
-    fn tells(&self, n: u32) -> bool
-        ensures { result ≡ is_taken self.now n }
-    {
-        if n >= self.blocks {
-            return false;
-        }
-        !self.rows.get(0, n)
     }
 }

@@ -13,15 +13,15 @@ pub copy_row-requires-clause-prop : goal.copy_row-requires-clause-prop
 copy_row-requires-clause-prop g c =
     let v = g.V.View.seen c.args.view.now in
     let w = word_numbered v c.args.word.now c.in-Some.number (sym c.in-Some.is ∙ c.id_of.ensures) in
-    omega (arith, c.from.ensures, c.requires.told.props, c.requires.room.kept.numbers w.0 w.1, w.3)
+    omega (arith, c.requires.told.props, c.requires.room.kept.numbers w.0 w.1, w.3)
 
 pub returns-in-Some : goal.returns-in-Some
 returns-in-Some g c =
     let v = g.V.View.seen c.args.view.now in
     let w = word_numbered v c.args.word.now c.in-Some.number (sym c.in-Some.is ∙ c.id_of.ensures) in
-    pushes v c.requires.room.kept c.args.rows.now c.copy_row.new.to c.args.files c.args.row (ext.has c.args.ext.now c.from.result) (Has c.args.word.now) c.requires.room.within
+    pushes v c.requires.room.kept c.args.rows.now c.copy_row.new.to c.args.files c.args.row (ext.has c.args.ext.now c.in-Some.number) (Has c.args.word.now) c.requires.room.within
     (row_sets c.args.rows.now c.copy_row.new.to 65 c.args.files c.args.row _ c.requires.room.shape c.requires.row c.copy_row.ensures)
-    (λ p there. ap (λ n. ext.has c.args.ext.now n p.slot) (c.from.ensures ∙ sym w.3) ∙ (c.requires.told.told w.0 p w.1 there ∙ ap (has_word p.entry.words) w.2))
+    (λ p there. ap (λ n. ext.has c.args.ext.now n p.slot) (sym w.3) ∙ (c.requires.told.told w.0 p w.1 there ∙ ap (has_word p.entry.words) w.2))
 
 pub returns-in-None : goal.returns-in-None
 returns-in-None g c =

@@ -32,7 +32,7 @@ loop-number-preserved c =
     elim c.if-not-is_among.branch [
       | then-not-is_among w ↦
           let more = more_alone numbers others k c.requires.rise lt (sym c.is_among.ensures ∙ w.if-not-is_among.true) in
-          rw (w.counts-is, w.marks-is, w.put.ensures, w.from.ensures) (record {
+          rw (w.counts-is, w.marks-is, w.put.ensures) (record {
             counts = counts_up (has_alone (take k numbers) others) (has_alone (take (k + 1) numbers) others) q props q_in more a.counts.now l.counts l.invariant.counts (omega (arith, l.auto.counts));
             marks = touch_more (has_alone (take k numbers) others) (has_alone (take (k + 1) numbers) others) q props q_in more a.marks.now l.marks l.invariant.marks;
           })

@@ -34,7 +34,7 @@ loop-number-preserved c =
           let more = more_alone numbers others k c.requires.rise lt (sym c.is_among.ensures ∙ w.if-not-is_among.true) in
           let same = same_before (has_alone (take k numbers) others) (has_alone (take (k + 1) numbers) others) q props q_in more l.counts c.args.counts.now l.invariant.counts in
           let fit = c.requires.counted q (has_it numbers k lt) in
-          rw (w.counts-is, w.marks-is, w.put.ensures, w.from.ensures) (record {
+          rw (w.counts-is, w.marks-is, w.put.ensures) (record {
             counts = counts_down (has_alone (take k numbers) others) (has_alone (take (k + 1) numbers) others) q props q_in more l.counts a.counts.now l.invariant.counts (omega (arith, l.auto.counts)) (omega (arith, same, fit));
             marks = touch_more (has_alone (take k numbers) others) (has_alone (take (k + 1) numbers) others) q props q_in more a.marks.now l.marks l.invariant.marks;
           })

@@ -11,7 +11,7 @@ loop-number-init c = puts_none c.args.rows.now c.args.props c.args.files c.args.
 pub put-requires-clause-row : goal.put-requires-clause-row
 put-requires-clause-row c =
     let q_in = c.requires.in_props c.loop-number.number-index 0 c.loop-number-test.true in
-    omega (arith, c.from.ensures, q_in, c.loop-number.invariant.shape.tall)
+    omega (arith, q_in, c.loop-number.invariant.shape.tall)
 
 pub put-requires-clause-bit : goal.put-requires-clause-bit
 put-requires-clause-bit c = omega (arith, c.requires.file, c.loop-number.invariant.shape.wide)
@@ -29,7 +29,7 @@ loop-number-preserved c =
     elim c.if-not-is_among.branch [
       | then-not-is_among w ↦
           let more = more_alone numbers others k c.requires.rise lt (sym c.is_among.ensures ∙ w.if-not-is_among.true) in
-          rw (w.rows-is, w.put.ensures, w.from.ensures) (puts_more a.rows.now a.props a.files a.file a.value (has_alone (take k numbers) others) (has_alone (take (k + 1) numbers) others) l.rows l.invariant q q_in more)
+          rw (w.rows-is, w.put.ensures) (puts_more a.rows.now a.props a.files a.file a.value (has_alone (take k numbers) others) (has_alone (take (k + 1) numbers) others) l.rows l.invariant q q_in more)
       | else-not-is_among w ↦
           let same = same_alone numbers others k lt (sym c.is_among.ensures ∙ w.if-not-is_among.false) in
           rw (w.rows-is) (puts_same a.rows.now a.props a.files a.file a.value (has_alone (take k numbers) others) (has_alone (take (k + 1) numbers) others) l.rows l.invariant same)

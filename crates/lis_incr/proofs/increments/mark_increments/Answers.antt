@@ -1,4 +1,4 @@
-use Rattle.std.proofs.Common.{◌≡◌, ℕ, true, Some, List, sym, ◌∙◌, arith}
+use Rattle.std.proofs.Common.{refl, ◌≡◌, ℕ, true, Some, List, sym, ◌∙◌, arith}
 use Rattle.std.specs.List.{slice_get}
 use Rattle.std.proofs.lemmas.List.{take_all}
 use Rattle.lis_eval.specs.View.{table_of}
@@ -27,7 +27,6 @@ mark_increment-requires-clause-number g c =
     let w : List ℕ × ℕ = (c.in-Some.field-0-0, c.in-Some.number) in
     let at : slice_get v.words c.loop-k.k ≡ Some w = sym c.word_at.ensures ∙ c.in-Some.is in
     let there = contains_at v.words c.loop-k.k w at in
-    let same : w.1 ≡ c.from.result = sym c.from.ensures in
     omega (arith, c.requires.kept.numbers w there)
 
 pub loop-k-preserved : goal.loop-k-preserved
@@ -36,11 +35,10 @@ loop-k-preserved g c =
     let w : List ℕ × ℕ = (c.in-Some.field-0-0, c.in-Some.number) in
     let at : slice_get v.words c.loop-k.k ≡ Some w = sym c.word_at.ensures ∙ c.in-Some.is in
     let there = contains_at v.words c.loop-k.k w at in
-    let same : w.1 ≡ c.from.result = sym c.from.ensures in
     record {
       shape = c.mark_increment.ensures.shape;
       marked = λ test are. marked_more v (is_top (table_of v) test) c.loop-k.k c.loop-k.increments c.mark_increment.new.increments w (c.loop-k.invariant.marked test are) at
-          (c.mark_increment.ensures.marked test w are there same);
+          (c.mark_increment.ensures.marked test w are there refl);
     }
 
 pub returns-clause-marked : goal.returns-clause-marked

@@ -19,7 +19,7 @@ get-requires-clause-bit g c =
     let f = file_given v c.requires.kept c.loop-k.k c.in-Some.name c.in-Some.slot (sym c.in-Some.is ∙ c.file_at.ensures) in
     let x : Placed = f.0 in
     let at = f.1.at in
-    omega (arith, c.from.ensures, c.requires.marks.wide, f.1.placed, c.requires.kept.slots x f.1.there)
+    omega (arith, c.requires.marks.wide, f.1.placed, c.requires.kept.slots x f.1.there)
 
 pub returns-then-get : goal.returns-then-get
 returns-then-get g c =
@@ -27,7 +27,7 @@ returns-then-get g c =
     let f = file_given v c.requires.kept c.loop-k.k c.in-Some.name c.in-Some.slot (sym c.in-Some.is ∙ c.file_at.ensures) in
     let x : Placed = f.0 in
     let at = f.1.at in
-    let marked = ap (get c.args.marks.now 0) (f.1.placed ∙ sym c.from.ensures) ∙ (sym c.get.ensures ∙ c.if-get.true) in
+    let marked = ap (get c.args.marks.now 0) f.1.placed ∙ (sym c.get.ensures ∙ c.if-get.true) in
     (c.loop-k.invariant ∙ (shown_next (λ (f : Placed). get c.args.marks.now 0 f.slot) (λ (f : Placed). f.entry.name) v.files c.loop-k.k x at marked ∙ ap (λ (n : List ℕ). n ∷ names_from v c.args.marks.now (c.loop-k.k + 1)) f.1.named), omega arith)
 
 pub loop-k-preserved : goal.loop-k-preserved
@@ -36,7 +36,7 @@ loop-k-preserved g c =
     let f = file_given v c.requires.kept c.loop-k.k c.in-Some.name c.in-Some.slot (sym c.in-Some.is ∙ c.file_at.ensures) in
     let x : Placed = f.0 in
     let at = f.1.at in
-    let marked = ap (get c.args.marks.now 0) (f.1.placed ∙ sym c.from.ensures) ∙ (sym c.get.ensures ∙ c.if-get.false) in
+    let marked = ap (get c.args.marks.now 0) f.1.placed ∙ (sym c.get.ensures ∙ c.if-get.false) in
     c.loop-k.invariant ∙ shown_later (λ (f : Placed). get c.args.marks.now 0 f.slot) (λ (f : Placed). f.entry.name) v.files c.loop-k.k x at marked
 
 pub returns : goal.returns

@@ -15,14 +15,14 @@ get-requires-clause-bit g c =
     let v = g.V.View.seen c.args.view.now in
     let x : List ℕ × ℕ = (c.in-Some.word, c.in-Some.number) in
     let at : slice_get v.words c.loop-k.k ≡ Some x = sym c.word_at.ensures ∙ c.in-Some.is in
-    omega (arith, c.from.ensures, c.requires.marks.wide, c.requires.kept.numbers x (contains_at v.words c.loop-k.k x at))
+    omega (arith, c.requires.marks.wide, c.requires.kept.numbers x (contains_at v.words c.loop-k.k x at))
 
 pub returns-then-get : goal.returns-then-get
 returns-then-get g c =
     let v = g.V.View.seen c.args.view.now in
     let x : List ℕ × ℕ = (c.in-Some.word, c.in-Some.number) in
     let at : slice_get v.words c.loop-k.k ≡ Some x = sym c.word_at.ensures ∙ c.in-Some.is in
-    let marked = ap (get c.args.marks.now 0) (sym c.from.ensures) ∙ (sym c.get.ensures ∙ c.if-get.true) in
+    let marked = (sym c.get.ensures ∙ c.if-get.true) in
     (c.loop-k.invariant ∙ (shown_next (λ (w : List ℕ × ℕ). get c.args.marks.now 0 w.1) (λ (w : List ℕ × ℕ). w.0) v.words c.loop-k.k x at marked), omega arith)
 
 pub loop-k-preserved : goal.loop-k-preserved
@@ -30,7 +30,7 @@ loop-k-preserved g c =
     let v = g.V.View.seen c.args.view.now in
     let x : List ℕ × ℕ = (c.in-Some.word, c.in-Some.number) in
     let at : slice_get v.words c.loop-k.k ≡ Some x = sym c.word_at.ensures ∙ c.in-Some.is in
-    let marked = ap (get c.args.marks.now 0) (sym c.from.ensures) ∙ (sym c.get.ensures ∙ c.if-get.false) in
+    let marked = (sym c.get.ensures ∙ c.if-get.false) in
     c.loop-k.invariant ∙ shown_later (λ (w : List ℕ × ℕ). get c.args.marks.now 0 w.1) (λ (w : List ℕ × ℕ). w.0) v.words c.loop-k.k x at marked
 
 pub returns : goal.returns

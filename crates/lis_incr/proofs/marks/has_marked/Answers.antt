@@ -11,7 +11,7 @@ returns-then-get c =
     let numbers = c.args.numbers.now in
     let k = c.loop-number.number-index in
     let lt = c.loop-number-test.true in
-    sym (any_from_among (get c.args.marks.now 0) numbers (get_or numbers k 0) (among_from_contains numbers (get_or numbers k 0) (k, lt, get_or_default numbers k (get_or numbers k 0) 0 lt)) (ap (get c.args.marks.now 0) (sym c.from.ensures) ∙ (sym c.get.ensures ∙ c.if-get.true)))
+    sym (any_from_among (get c.args.marks.now 0) numbers (get_or numbers k 0) (among_from_contains numbers (get_or numbers k 0) (k, lt, get_or_default numbers k (get_or numbers k 0) 0 lt)) ((sym c.get.ensures ∙ c.if-get.true)))
 
 pub loop-number-preserved : goal.loop-number-preserved
 loop-number-preserved c =
@@ -19,7 +19,7 @@ loop-number-preserved c =
     let marks = c.args.marks.now in
     let k = c.loop-number.number-index in
     let lt = c.loop-number-test.true in
-    list_any_more (get marks 0) numbers k 0 lt ∙ (ap (λ b. b || get marks 0 (get_or numbers k 0)) c.loop-number.invariant ∙ (ap (get marks 0) (sym c.from.ensures) ∙ (sym c.get.ensures ∙ c.if-get.false)))
+    list_any_more (get marks 0) numbers k 0 lt ∙ (ap (λ b. b || get marks 0 (get_or numbers k 0)) c.loop-number.invariant ∙ ((sym c.get.ensures ∙ c.if-get.false)))
 
 pub returns : goal.returns
 returns c =

@@ -1,4 +1,4 @@
-use Rattle.std.proofs.Common.{◌≡◌, ℕ, ◌&&◌, Some, List, sym, ap, ◌∙◌, arith}
+use Rattle.std.proofs.Common.{refl, ◌≡◌, ℕ, ◌&&◌, Some, List, sym, ap, ◌∙◌, arith}
 use Rattle.std.specs.List.{slice_get}
 use Rattle.std.proofs.lemmas.List.{take_all}
 use Rattle.lis_words.specs.Words.{has_word}
@@ -30,7 +30,6 @@ mark_own-requires-clause-number g c =
     let w : List ℕ × ℕ = (c.in-Some.field-0-0, c.in-Some.number) in
     let at : slice_get v.words c.loop-k.k ≡ Some w = sym c.word_at.ensures ∙ c.in-Some.is in
     let there = contains_at v.words c.loop-k.k w at in
-    let same : w.1 ≡ c.from.result = sym c.from.ensures in
     omega (arith, c.requires.kept.numbers w there, c.requires.room)
 
 pub mark_own-requires-clause-slot : goal.mark_own-requires-clause-slot
@@ -42,12 +41,11 @@ loop-k-preserved g c =
     let w : List ℕ × ℕ = (c.in-Some.field-0-0, c.in-Some.number) in
     let at : slice_get v.words c.loop-k.k ≡ Some w = sym c.word_at.ensures ∙ c.in-Some.is in
     let there = contains_at v.words c.loop-k.k w at in
-    let same : w.1 ≡ c.from.result = sym c.from.ensures in
     record {
       shape = c.mark_own.ensures.shape;
       marked = λ files f split here placed. marked_more v (λ word. has_word f.entry.words word && is_candidate files word) c.loop-k.k c.loop-k.candidates c.mark_own.new.candidates w (c.loop-k.invariant.marked files f split here placed) at
-          (numbered_bits c.loop-k.candidates c.mark_own.new.candidates v.limits.props w.1 c.from.result same (λ n. has_word f.entry.words w.0 && splits_by c.args.counts.now c.args.many n) (has_word f.entry.words w.0 && is_candidate files w.0)
-          (ap (λ b. has_word f.entry.words w.0 && b) (split.told w there)) (c.mark_own.ensures.marks f w here placed there same));
+          (numbered_bits c.loop-k.candidates c.mark_own.new.candidates v.limits.props w.1 w.1 refl (λ n. has_word f.entry.words w.0 && splits_by c.args.counts.now c.args.many n) (has_word f.entry.words w.0 && is_candidate files w.0)
+          (ap (λ b. has_word f.entry.words w.0 && b) (split.told w there)) (c.mark_own.ensures.marks f w here placed there refl));
     }
 
 pub returns-clause-marked : goal.returns-clause-marked

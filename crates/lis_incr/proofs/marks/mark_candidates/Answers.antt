@@ -1,4 +1,4 @@
-use Rattle.std.proofs.Common.{◌≡◌, ℕ, Some, List, sym, ◌∙◌, arith}
+use Rattle.std.proofs.Common.{refl, ◌≡◌, ℕ, Some, List, sym, ◌∙◌, arith}
 use Rattle.std.specs.List.{slice_get}
 use Rattle.std.proofs.lemmas.List.{take_all}
 use Rattle.lis_bits.proofs.Laws.{shaped}
@@ -29,7 +29,6 @@ mark_number-requires-clause-number g c =
     let w : List ℕ × ℕ = (c.in-Some.field-0-0, c.in-Some.number) in
     let at : slice_get v.words c.loop-k.k ≡ Some w = sym c.word_at.ensures ∙ c.in-Some.is in
     let there = contains_at v.words c.loop-k.k w at in
-    let same : w.1 ≡ c.from.result = sym c.from.ensures in
     omega (arith, c.requires.kept.numbers w there, c.requires.room)
 
 pub mark_number-requires-clause-candidates : goal.mark_number-requires-clause-candidates
@@ -41,12 +40,11 @@ loop-k-preserved g c =
     let w : List ℕ × ℕ = (c.in-Some.field-0-0, c.in-Some.number) in
     let at : slice_get v.words c.loop-k.k ≡ Some w = sym c.word_at.ensures ∙ c.in-Some.is in
     let there = contains_at v.words c.loop-k.k w at in
-    let same : w.1 ≡ c.from.result = sym c.from.ensures in
     let sets = rw c.requires.room at c.mark_number.ensures in
     record {
       shape = sets.shape;
       marked = λ files split. marked_more v (is_candidate files) c.loop-k.k c.loop-k.candidates c.mark_number.new.candidates w (c.loop-k.invariant.marked files split) at
-          (numbered_bits c.loop-k.candidates c.mark_number.new.candidates v.limits.props w.1 c.from.result same (splits_by c.args.counts.now c.args.many) (is_candidate files w.0) (split.told w there) sets);
+          (numbered_bits c.loop-k.candidates c.mark_number.new.candidates v.limits.props w.1 w.1 refl (splits_by c.args.counts.now c.args.many) (is_candidate files w.0) (split.told w there) sets);
     }
 
 pub returns-clause-marked : goal.returns-clause-marked

@@ -21,20 +21,20 @@ pub get-requires-clause-bit : goal.get-requires-clause-bit
 get-requires-clause-bit g c =
     let v = g.V.View.seen c.args.view.now in
     let f = file_named v c.args.name.now c.in-Some.slot (sym c.in-Some.is ∙ c.slot_of.ensures) in
-    omega (arith, c.from-slot.ensures, c.evaluate.ensures.room.files.wide, f.3, c.evaluate.ensures.kept.slots f.0 f.1)
+    omega (arith, c.evaluate.ensures.room.files.wide, f.3, c.evaluate.ensures.kept.slots f.0 f.1)
 
 pub returns-then-not-get-clause-none : goal.returns-then-not-get-clause-none
 returns-then-not-get-clause-none g c = λ _.
     let v = g.V.View.seen c.args.view.now in
     let f = file_named v c.args.name.now c.in-Some.slot (sym c.in-Some.is ∙ c.slot_of.ensures) in
     let found = c.evaluate.new.scratch.files in
-    not_here v c.evaluate.ensures.kept c.args.place.now c.args.name.now f.0 f.1 f.2 (sym (c.evaluate.ensures.found.told f.0 f.1) ∙ (ap (get found 0) (f.3 ∙ sym c.from-slot.ensures) ∙ (sym c.get.ensures ∙ c.if-not-get.true)))
+    not_here v c.evaluate.ensures.kept c.args.place.now c.args.name.now f.0 f.1 f.2 (sym (c.evaluate.ensures.found.told f.0 f.1) ∙ (ap (get found 0) f.3 ∙ (sym c.get.ensures ∙ c.if-not-get.true)))
 
 pub walk-scratch-requires-clause-slot : goal.walk-scratch-requires-clause-slot
 walk-scratch-requires-clause-slot g c =
     let v = g.V.View.seen c.args.view.now in
     let f = file_named v c.args.name.now c.in-Some.slot (sym c.in-Some.is ∙ c.slot_of.ensures) in
-    (f.0, f.1, f.3 ∙ sym c.from-slot.ensures)
+    (f.0, f.1, f.3)
 
 pub returns-clause-way : goal.returns-clause-way
 returns-clause-way g c = λ _.
@@ -43,9 +43,9 @@ returns-clause-way g c = λ _.
     let place = c.args.place.now in
     let f = file_named v c.args.name.now c.in-Some.slot (sym c.in-Some.is ∙ c.slot_of.ensures) in
     let found = c.evaluate.new.scratch.files in
-    let inside = sym (c.evaluate.ensures.found.told f.0 f.1) ∙ (ap (get found 0) (f.3 ∙ sym c.from-slot.ensures) ∙ (sym c.get.ensures ∙ c.if-not-get.false)) in
+    let inside = sym (c.evaluate.ensures.found.told f.0 f.1) ∙ (ap (get found 0) f.3 ∙ (sym c.get.ensures ∙ c.if-not-get.false)) in
     let most : c.count_found-most.result ≡ length (extension (table_of v) place) = c.count_found-most.ensures.count ∙ (sym (length-map _ (λ (p : Placed). p.entry)) ∙ ap length (found_is v kept found place c.evaluate.ensures.found)) in
-    let steps = (c.walk-scratch.ensures.steps f.0 place f.1 (f.3 ∙ sym c.from-slot.ensures) c.evaluate.ensures.found ∙ ap (λ n. route_within n (table_of v) place f.0.entry) most) in
+    let steps = (c.walk-scratch.ensures.steps f.0 place f.1 f.3 c.evaluate.ensures.found ∙ ap (λ n. route_within n (table_of v) place f.0.entry) most) in
     let few = shorter v kept (length (extension (table_of v) place)) place f.0.entry (among_here v kept place c.args.name.now f.0 f.1 f.2 inside) in
     let same = ap length steps in
     record {

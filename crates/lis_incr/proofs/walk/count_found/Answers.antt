@@ -10,14 +10,14 @@ pub get-requires-clause-bit : goal.get-requires-clause-bit
 get-requires-clause-bit g c =
     let v = g.V.View.seen c.args.view.now in
     let f = file_given v c.requires.kept c.loop-k.k c.in-Some.field-0-0 c.in-Some.slot (sym c.in-Some.is ∙ c.file_at.ensures) in
-    omega (arith, c.from.ensures, c.requires.found.wide, c.requires.kept.slots f.0 f.1.there, f.1.placed)
+    omega (arith, c.requires.found.wide, c.requires.kept.slots f.0 f.1.there, f.1.placed)
 
 pub loop-k-preserved : goal.loop-k-preserved
 loop-k-preserved g c =
     let v = g.V.View.seen c.args.view.now in
     let found = c.args.found.now in
     let f = file_given v c.requires.kept c.loop-k.k c.in-Some.field-0-0 c.in-Some.slot (sym c.in-Some.is ∙ c.file_at.ensures) in
-    let slot = ap (get found 0) (f.1.placed ∙ sym c.from.ensures) ∙ sym c.get.ensures in
+    let slot = ap (get found 0) f.1.placed ∙ sym c.get.ensures in
     let was = c.loop-k.invariant.count in
     let few = c.loop-k.invariant.few in
     elim c.if-get.branch [

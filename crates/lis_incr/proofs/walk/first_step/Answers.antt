@@ -25,7 +25,6 @@ is_top-requires-clause-number g c =
     let w : List ℕ × ℕ = (c.in-Some.field-0-0, c.in-Some.number) in
     let at : slice_get v.words c.loop-k.k ≡ Some w = sym c.word_at.ensures ∙ c.in-Some.is in
     let there = contains_at v.words c.loop-k.k w at in
-    let same : w.1 ≡ c.from-number.result = sym c.from-number.ensures in
     omega (arith, c.requires.kept.numbers w there)
 
 pub returns-then-is_top-clause-first : goal.returns-then-is_top-clause-first
@@ -35,11 +34,10 @@ returns-then-is_top-clause-first g c = λ f here placed.
     let w : List ℕ × ℕ = (c.in-Some.field-0-0, c.in-Some.number) in
     let at : slice_get v.words c.loop-k.k ≡ Some w = sym c.word_at.ensures ∙ c.in-Some.is in
     let there = contains_at v.words c.loop-k.k w at in
-    let same : w.1 ≡ c.from-number.result = sym c.from-number.ensures in
     let written = with_items_is c.args.scratch.now.counts c.count_words-many.new.counts (c.count_words-many.auto.counts ∙ c.deref_mut.ensures.len) in
     let split = subst (λ (xs : List ℕ). SplitBy v files xs c.count_words-many.result) (sym (c.deref.ensures.value ∙ written)) c.count_words-many.ensures in
-    let step = sym (own_top v c.requires.kept files f here w there) ∙ (sym (c.is_top.ensures (λ word. has_word f.entry.words word && is_candidate files word) w (c.mark_all_own.ensures.marked files f split here placed) there same) ∙ c.if-is_top.true) in
-    (w, at, same, found_here (is_step v c.args.scratch.now.files f.entry) v.words c.loop-k.k w (c.loop-k.invariant f here placed) at step)
+    let step = sym (own_top v c.requires.kept files f here w there) ∙ (sym (c.is_top.ensures (λ word. has_word f.entry.words word && is_candidate files word) w (c.mark_all_own.ensures.marked files f split here placed) there refl) ∙ c.if-is_top.true) in
+    (w, at, refl, found_here (is_step v c.args.scratch.now.files f.entry) v.words c.loop-k.k w (c.loop-k.invariant f here placed) at step)
 
 pub loop-k-preserved : goal.loop-k-preserved
 loop-k-preserved g c = λ f here placed.
@@ -48,12 +46,11 @@ loop-k-preserved g c = λ f here placed.
     let w : List ℕ × ℕ = (c.in-Some.field-0-0, c.in-Some.number) in
     let at : slice_get v.words c.loop-k.k ≡ Some w = sym c.word_at.ensures ∙ c.in-Some.is in
     let there = contains_at v.words c.loop-k.k w at in
-    let same : w.1 ≡ c.from-number.result = sym c.from-number.ensures in
     let written = with_items_is c.args.scratch.now.counts c.count_words-many.new.counts (c.count_words-many.auto.counts ∙ c.deref_mut.ensures.len) in
     let split = subst (λ (xs : List ℕ). SplitBy v files xs c.count_words-many.result) (sym (c.deref.ensures.value ∙ written)) c.count_words-many.ensures in
     let marked = c.mark_all_own.ensures.marked files f split here placed in
     still_none (is_step v c.args.scratch.now.files f.entry) v.words c.loop-k.k w (c.loop-k.invariant f here placed) at
-    (sym (own_top v c.requires.kept files f here w there) ∙ (sym (c.is_top.ensures (λ word. has_word f.entry.words word && is_candidate files word) w marked there same) ∙ c.if-is_top.false))
+    (sym (own_top v c.requires.kept files f here w there) ∙ (sym (c.is_top.ensures (λ word. has_word f.entry.words word && is_candidate files word) w marked there refl) ∙ c.if-is_top.false))
 
 pub returns-clause-first : goal.returns-clause-first
 returns-clause-first g c = λ f here placed.

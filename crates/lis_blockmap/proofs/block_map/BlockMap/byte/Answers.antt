@@ -19,7 +19,7 @@ overflow_mul-byte c =
 pub overflow_add-byte : goal.overflow_add-byte
 overflow_add-byte c =
     let l = c.loop-i in
-    let bit : c.from.result ≤ 1 = rw c.from.ensures (bit_small c.tells.result) in
+    let bit : c.from.result ≤ 1 = rw c.from.ensures (bit_small c.is_taken.result) in
     omega (arith, byte_fits (λ n. is_taken c.args.self.now (8 * c.args.k + (8 - l.i) + n)) l.i l.byte c.from.result c.loop-i-test.true l.invariant bit)
 
 pub loop-i-preserved : goal.loop-i-preserved
@@ -30,7 +30,7 @@ loop-i-preserved c =
     let here : 8 * c.args.k + 7 - l.i ≡ n = omega (arith, c.loop-i-test.true) in
     let above : 8 * c.args.k + (8 - l.i) ≡ n + 1 = omega (arith, c.loop-i-test.true) in
     ap (λ bit. 2 * l.byte + bit) c.from.ensures
-    ∙ number_more taken n l.i l.byte c.tells.result (c.tells.ensures ∙ ap taken here) (l.invariant ∙ ap (λ m. bits_number l.i (λ j. taken (m + j))) above)
+    ∙ number_more taken n l.i l.byte c.is_taken.result (c.is_taken.ensures ∙ ap taken here) (l.invariant ∙ ap (λ m. bits_number l.i (λ j. taken (m + j))) above)
 
 pub returns-then-k-self : goal.returns-then-k-self
 returns-then-k-self c =

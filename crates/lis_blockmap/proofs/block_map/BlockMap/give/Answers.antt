@@ -8,7 +8,7 @@ put-requires-clause-bit c =
     let m = c.self.inside in
     let s = c.self.invariant in
     let held = rw (← c.self.view_is) at c.requires in
-    omega (arith, c.from.ensures, s.wide, held_within m.rows m.blocks m.free c.args.n s held)
+    omega (arith, s.wide, held_within m.rows m.blocks m.free c.args.n s held)
 
 pub overflow_add-self : goal.overflow_add-self
 overflow_add-self c =
@@ -21,19 +21,19 @@ invariant_of-self c =
     let m = c.self.inside in
     let s = c.self.invariant in
     let held = rw (← c.self.view_is) at c.requires in
-    rw (c.put.ensures, c.from.ensures) (given_sound m.rows m.blocks m.free c.args.n s held)
+    rw (c.put.ensures) (given_sound m.rows m.blocks m.free c.args.n s held)
 
 pub returns-clause-given : goal.returns-clause-given
 returns-clause-given c =
     let m = c.self.inside in
     let s = c.self.invariant in
     let held = rw (← c.self.view_is) at c.requires in
-    rw (← c.self.view_is, c.put.ensures, c.from.ensures) (taken_put m.rows m.blocks c.args.n true s.tall s.wide (held_within m.rows m.blocks m.free c.args.n s held))
+    rw (← c.self.view_is, c.put.ensures) (taken_put m.rows m.blocks c.args.n true s.tall s.wide (held_within m.rows m.blocks m.free c.args.n s held))
 
 pub returns-clause-more : goal.returns-clause-more
 returns-clause-more c =
     let m = c.self.inside in
     let s = c.self.invariant in
     let held = rw (← c.self.view_is) at c.requires in
-    rw (← c.self.view_is, c.put.ensures, c.from.ensures)
+    rw (← c.self.view_is, c.put.ensures)
     (ap free_count (taken_put m.rows m.blocks c.args.n true s.tall s.wide (held_within m.rows m.blocks m.free c.args.n s held)) ∙ given_more m.rows m.blocks m.free c.args.n s held)

@@ -7,21 +7,21 @@ pub put-requires-clause-bit : goal.put-requires-clause-bit
 put-requires-clause-bit c =
     let m = c.self.inside in
     let lt = rw (← c.self.view_is, length-taken_of m.rows m.blocks) at c.requires.within in
-    omega (arith, lt, c.from.ensures, c.self.invariant.wide)
+    omega (arith, lt, c.self.invariant.wide)
 
 pub invariant_of-self : goal.invariant_of-self
 invariant_of-self c =
     let m = c.self.inside in
     let lt = rw (← c.self.view_is, length-taken_of m.rows m.blocks) at c.requires.within in
     let is_free = rw (← c.self.view_is) at c.requires.free in
-    rw (c.put.ensures, c.from.ensures) (marked_sound m.rows m.blocks m.free c.args.n c.self.invariant lt is_free)
+    rw (c.put.ensures) (marked_sound m.rows m.blocks m.free c.args.n c.self.invariant lt is_free)
 
 pub returns-clause-marked : goal.returns-clause-marked
 returns-clause-marked c =
     let m = c.self.inside in
     let s = c.self.invariant in
     let lt = rw (← c.self.view_is, length-taken_of m.rows m.blocks) at c.requires.within in
-    rw (← c.self.view_is, c.put.ensures, c.from.ensures) (taken_put m.rows m.blocks c.args.n false s.tall s.wide lt)
+    rw (← c.self.view_is, c.put.ensures) (taken_put m.rows m.blocks c.args.n false s.tall s.wide lt)
 
 pub returns-clause-fewer : goal.returns-clause-fewer
 returns-clause-fewer c =
@@ -29,5 +29,5 @@ returns-clause-fewer c =
     let s = c.self.invariant in
     let lt = rw (← c.self.view_is, length-taken_of m.rows m.blocks) at c.requires.within in
     let is_free = rw (← c.self.view_is) at c.requires.free in
-    rw (← c.self.view_is, c.put.ensures, c.from.ensures)
+    rw (← c.self.view_is, c.put.ensures)
     (ap (λ t. free_count t + 1) (taken_put m.rows m.blocks c.args.n false s.tall s.wide lt) ∙ marked_fewer m.rows m.blocks m.free c.args.n s lt is_free)

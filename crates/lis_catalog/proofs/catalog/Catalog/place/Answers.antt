@@ -23,7 +23,7 @@ invariant_of-self c =
     let i = c.self.inside in
     let fits = fits_from c.args.self.now i.files i.records.items i.order.items c.args.slot c.args.rec c.rec.inside.name c.in-Err.place c.self.view_is (ap (λ (r : FileRecord). r.name) c.rec.view_is)
     c.in-Err.ensures.place c.in-Err.ensures.bound c.in-Err.ensures.name c.requires.below c.requires.free in
-    rw (c.in-Ok.ensures.items, c.from.ensures)
+    rw (c.in-Ok.ensures.items)
     (put_held i.files _ i.records.items i.order.items c.self.invariant c.args.slot c.in-Err.place c.args.rec fits _ (omega (arith, c.insert.ensures.capacity, c.self.invariant.has_room)))
 
 pub returns : goal.returns
@@ -31,5 +31,5 @@ returns c =
     let i = c.self.inside in
     let fits = fits_from c.args.self.now i.files i.records.items i.order.items c.args.slot c.args.rec c.rec.inside.name c.in-Err.place c.self.view_is (ap (λ (r : FileRecord). r.name) c.rec.view_is)
     c.in-Err.ensures.place c.in-Err.ensures.bound c.in-Err.ensures.name c.requires.below c.requires.free in
-    rw (c.in-Ok.ensures.items, c.from.ensures, ← c.self.view_is)
+    rw (c.in-Ok.ensures.items, ← c.self.view_is)
     (put_same i.files _ i.records.items i.order.items c.self.invariant c.args.slot c.in-Err.place c.args.rec fits)

@@ -17,28 +17,28 @@ pub index_mut-requires : goal.index_mut-requires
 index_mut-requires c =
     let i = c.self.inside in
     let at = seen_at i.files i.records.items i.order.items c.args.self.now c.self.view_is c.in_ok-place.place c.args.slot c.in_ok-place.ensures.place in
-    omega (arith, in_records i.files _ i.records.items i.order.items c.self.invariant c.args.slot c.in_ok-place.place at, c.from.ensures)
+    omega (arith, in_records i.files _ i.records.items i.order.items c.self.invariant c.args.slot c.in_ok-place.place at)
 
 pub invariant_of-self : goal.invariant_of-self
 invariant_of-self c =
     let i = c.self.inside in
     let at = seen_at i.files i.records.items i.order.items c.args.self.now c.self.view_is c.in_ok-place.place c.args.slot c.in_ok-place.ensures.place in
-    rw (c.take.ensures.after, c.remove.ensures.items, c.from.ensures)
+    rw (c.take.ensures.after, c.remove.ensures.items)
     (cut_held i.files _ i.records.items i.order.items c.self.invariant c.args.slot c.in_ok-place.place at _ (omega (arith, c.remove.ensures.capacity, c.self.invariant.has_room)))
 
 pub returns-clause-was : goal.returns-clause-was
 returns-clause-was c =
     let i = c.self.inside in
     let at = seen_at i.files i.records.items i.order.items c.args.self.now c.self.view_is c.in_ok-place.place c.args.slot c.in_ok-place.ensures.place in
-    let low : c.from.result < length i.records.items = omega (arith, in_records i.files _ i.records.items i.order.items c.self.invariant c.args.slot c.in_ok-place.place at, c.from.ensures) in
+    let low : c.args.slot < length i.records.items = omega (arith, in_records i.files _ i.records.items i.order.items c.self.invariant c.args.slot c.in_ok-place.place at) in
     c.take.ensures.value
     ∙ (c.index_mut.ensures.value
-    ∙ (get_or_default i.records.items c.from.result c.index_mut.result.now None low
-    ∙ (ap (λ n. get_or i.records.items n None) c.from.ensures ∙ (c.self.invariant.told c.args.slot ∙ ap (λ s. rec_at s c.args.slot) c.self.view_is))))
+    ∙ (get_or_default i.records.items c.args.slot c.index_mut.result.now None low
+    ∙ (c.self.invariant.told c.args.slot ∙ ap (λ s. rec_at s c.args.slot) c.self.view_is)))
 
 pub returns-clause-gone : goal.returns-clause-gone
 returns-clause-gone c =
     let i = c.self.inside in
     let at = seen_at i.files i.records.items i.order.items c.args.self.now c.self.view_is c.in_ok-place.place c.args.slot c.in_ok-place.ensures.place in
-    rw (c.take.ensures.after, c.remove.ensures.items, c.from.ensures, ← c.self.view_is)
+    rw (c.take.ensures.after, c.remove.ensures.items, ← c.self.view_is)
     (cut_same i.files _ i.records.items i.order.items c.self.invariant c.args.slot c.in_ok-place.place at)

@@ -15,12 +15,12 @@ unreachable-requires-in_default-insert c =
 pub invariant_of-self : goal.invariant_of-self
 invariant_of-self c =
     let i = c.self.inside in
-    rw (c.in-Ok.ensures.items, c.from.ensures, c.copied.ensures)
+    rw (c.in-Ok.ensures.items, c.copied.ensures)
     (put_sound i.props _ i.holders.items i.order.items c.self.invariant c.args.word.now c.args.number c.in-Err.place (rw (← c.self.view_is) at c.requires.below) (rw (← c.self.view_is) at c.requires.free) (rw (← c.self.view_is) at c.in-Err.ensures.bound) (rw (← c.self.view_is) at c.in-Err.ensures.absent)
     c.search.ensures.word _ (omega (arith, c.insert.ensures.capacity, c.self.invariant.has_room)))
 
 pub returns : goal.returns
 returns c =
     let i = c.self.inside in
-    rw (c.in-Ok.ensures.items, c.from.ensures, c.copied.ensures, ← c.self.view_is)
+    rw (c.in-Ok.ensures.items, c.copied.ensures, ← c.self.view_is)
     (put_same i.props _ i.holders.items i.order.items c.self.invariant c.args.word.now c.args.number c.in-Err.place (rw (← c.self.view_is) at c.requires.below) (rw (← c.self.view_is) at c.requires.free) (rw (← c.self.view_is) at c.in-Err.ensures.bound) (rw (← c.self.view_is) at c.in-Err.ensures.absent))

@@ -13,12 +13,12 @@ returns-in_default-clause-gone c = without_new c.args.self.now c.args.word.now c
 pub index_mut-requires : goal.index_mut-requires
 index_mut-requires c =
     let i = c.self.inside in
-    omega (arith, in_holders i.props _ i.holders.items i.order.items c.self.invariant c.args.word.now c.remove-number.result c.in-Ok.place (rw (← c.self.view_is) at c.in-Ok.ensures.bound) (rw (← c.self.view_is) at c.in-Ok.ensures.found) c.remove-number.ensures.value, c.from.ensures)
+    omega (arith, in_holders i.props _ i.holders.items i.order.items c.self.invariant c.args.word.now c.remove-number.result c.in-Ok.place (rw (← c.self.view_is) at c.in-Ok.ensures.bound) (rw (← c.self.view_is) at c.in-Ok.ensures.found) c.remove-number.ensures.value)
 
 pub invariant_of-self : goal.invariant_of-self
 invariant_of-self c =
     let i = c.self.inside in
-    rw (c.remove-number.ensures.items, c.from.ensures)
+    rw (c.remove-number.ensures.items)
     (cut_sound i.props _ i.holders.items i.order.items c.self.invariant c.args.word.now c.remove-number.result c.in-Ok.place (rw (← c.self.view_is) at c.in-Ok.ensures.bound) (rw (← c.self.view_is) at c.in-Ok.ensures.found) c.remove-number.ensures.value
     _ (omega (arith, c.remove-number.ensures.capacity, c.self.invariant.has_room)))
 
@@ -31,5 +31,5 @@ returns-clause-number c =
 pub returns-clause-gone : goal.returns-clause-gone
 returns-clause-gone c =
     let i = c.self.inside in
-    rw (c.remove-number.ensures.items, c.from.ensures, ← c.self.view_is)
+    rw (c.remove-number.ensures.items, ← c.self.view_is)
     (cut_same i.props _ i.holders.items i.order.items c.self.invariant c.args.word.now c.remove-number.result c.in-Ok.place (rw (← c.self.view_is) at c.in-Ok.ensures.bound) (rw (← c.self.view_is) at c.in-Ok.ensures.found) c.remove-number.ensures.value)

@@ -23,7 +23,7 @@ returns-in-Some-clause-again c =
     let held = rw c.deref.ensures.value at c.put_in_order.ensures.held in
     let ordered = rw c.deref.ensures.value at c.put_in_order.ensures.ordered in
     let least = rw (c.deref-2.ensures.value, c.deref-3.ensures.value) at c.in-Some.ensures.first in
-    rw (c.from.ensures, ← c.self.view_is) (first_again c.self.inside.holders.items c.put_in_order.new.order.items _ held ordered c.in-Some.number least)
+    rw (← c.self.view_is) (first_again c.self.inside.holders.items c.put_in_order.new.order.items _ held ordered c.in-Some.number least)
 
 pub returns-in-None-clause-sorted : goal.returns-in-None-clause-sorted
 returns-in-None-clause-sorted c =
