@@ -1,11 +1,11 @@
 -- A block that is read as its part of the bytes of a file.
-use Rattle.std.proofs.Common.{◌≡◌, ◌⊎◌, inl, inr, ℕ, ◌+◌, ◌-◌, ◌*◌, ◌<◌, ◌≤◌, min, List, [], ◌∷◌, ◌++◌, length, take, drop, get_or, Bool, true, false, cond, refl, sym, ap, subst, ◌∙◌, arith, length-append, length-take, length-drop, append-nil}
+use Rattle.std.proofs.Common.{◌≡◌, ◌⊎◌, inl, inr, ℕ, ◌+◌, ◌-◌, ◌*◌, ◌<◌, ◌≤◌, min, List, [], ◌∷◌, ◌++◌, length, take, drop, get_or, Bool, true, false, cond, refl, sym, ap, subst, ◌∙◌, arith, length-append, length-take, append-nil}
 use Rattle.std.specs.List.{flat_map}
 use Rattle.std.proofs.Math.ListN.{drop_of_length-le}
 use Rattle.std.proofs.Math.Seq.{take-add, take-append-add}
 use Rattle.std.proofs.lemmas.Bool.{cases_lt}
 use Rattle.std.proofs.lemmas.Grind.{flat_map-append}
-use Rattle.std.proofs.lemmas.List.{drop-take, take-append-drop, take-take, take_all, take_at, take_more, length-take-le}
+use Rattle.std.proofs.lemmas.List.{drop-take, take-append-drop, take-take, take_all, take_at, take_more}
 use Rattle.lis_ports.specs.Bytes.{Torn, part, put}
 use Rattle.lis_ports.proofs.Parts.{part-put, put_between, torn-put}
 use Rattle.lis_model.specs.State.{blocks_needed}

@@ -10,9 +10,12 @@ use Rattle.lis_content.specs.Content.{marked}
 use Rattle.lis_content.specs.Placing.{AreUnstaged, TakesRow}
 use Rattle.lis_content.proofs.Numbers.{length-marked, free_after, marked_more}
 
-pub takes_next : (taken now next : List Bool) (n count : ℕ) → TakesRow taken now n count → n + count < length now → is_taken now (n + count) ≡ false → next ≡ set now (n + count) true → free_count next + 1 ≡ free_count now → TakesRow taken next n (count + 1)
+pub length_row : (taken now : List Bool) (n count : ℕ) → TakesRow taken now n count → length now ≡ length taken
+length_row taken now n count row = ap length row.marks ∙ length-marked taken (range_with_len n count)
+
+pub takes_next : (taken now next : List Bool) (n count : ℕ) → TakesRow taken now n count → n + count < length taken → is_taken now (n + count) ≡ false → next ≡ set now (n + count) true → free_count next + 1 ≡ free_count now → TakesRow taken next n (count + 1)
 takes_next taken now next n count was lt free is fewer = record {
-  within = omega (arith, lt, len);
+  within = omega (arith, lt);
   were_free = λ k le less. elim (cases_lt k (n + count)) as (λ _. is_taken taken k ≡ false) [
     | inl before ↦ was.were_free k le before
     | inr past ↦ let same : k ≡ n + count = omega (arith, less, past) in ap (is_taken taken) same ∙ new
@@ -21,9 +24,6 @@ takes_next taken now next n count was lt free is fewer = record {
   counted = omega (arith, was.counted, fewer);
 }
   where
-    len : length now ≡ length taken
-    len = ap length was.marks ∙ length-marked taken (range_with_len n count)
-
     new : is_taken taken (n + count) ≡ false
     new = (free_after (length taken) taken (range_with_len n count) (n + count) refl (row_within n count (length taken) was.within) (ap (λ t. is_taken t (n + count)) (sym was.marks) ∙ free)).1
 

@@ -1,6 +1,6 @@
 //! The bytes of a file, with an index block if a slot has too few numbers: read, and dropped.
 
-ghost use Rattle.std.specs.Prelude.{◌≡◌, ◌<◌, ◌≤◌, ◌==◌, ℕ, List, None, true, false, length, slice_index, slice_set, IsTrue, IfOk, IfSome, OnOk, OnErr};
+ghost use Rattle.std.specs.Prelude.{◌≡◌, ◌<◌, ◌≤◌, ℕ, List, None, true, false, length, slice_index, slice_set, IsTrue, IfOk, IfSome, OnOk, OnErr};
 ghost use Rattle.lis_ports.specs.Calls.{ReadsDisk};
 ghost use Rattle.lis_model.specs.State.{blocks_needed, blocks_taken};
 ghost use Rattle.lis_journal.specs.Images.{Fits, look, held_in, JournalIsUsable};

@@ -8,6 +8,7 @@ ghost use Rattle.lis_ports.specs.Calls.{DiskFaultEnds, UsesDisk};
 ghost use Rattle.lis_journal.specs.Images.{JournalIsUsable};
 ghost use Rattle.lis_model.specs.State.{blocks_needed, blocks_taken};
 ghost use Rattle.lis_blockmap.specs.Bitmap.{free_count, is_taken};
+ghost use Rattle.lis_model.specs.Sets.{are_short};
 ghost use Rattle.lis_content.specs.Placing.{AreUnstaged, IsLaid, IsPlaced, IsTornOff, IsUnplaced, HasPlaceCause, TakesRow, RowOf, RowTorn, OnePlaced};
 ghost use Rattle.lis_content.specs.declared.fault.PutFault.TheVariants.{NoSpace};
 ghost use Rattle.lis_journal.specs.Record.{homes_start};
@@ -32,17 +33,14 @@ struct Row {
     count: u32,
 }
 
-// Takes this block, if there is one and it is free.
+// Takes this block, if it is free.
 fn take_next(map: &mut BlockMap, n: u32) -> bool
-    ensures within { IsTrue result → (n < length map.old) × (n < MAX_BLOCKS) }
+    requires within { n < length map.old }
     ensures was_free { IsTrue result → is_taken map.old n ≡ false }
     ensures taken { IsTrue result → map.new ≡ slice_set map.old n true }
     ensures fewer { IsTrue result → free_count map.new + 1 ≡ free_count map.old }
     ensures stays { result ≡ false → map.new ≡ map.old }
 {
-    if n as usize >= map.len() {
-        return false;
-    }
     if map.is_taken(n) {
         return false;
     }
@@ -61,8 +59,9 @@ fn take_row(map: &mut BlockMap, most: u32) -> Row
     let Some(first) = map.take() else {
         unreachable!()
     };
+    let limit = most.min(map.len() as u32 - first);
     let mut count = 1;
-    while count < most {
+    while count < limit {
         if !take_next(map, first + count) {
             return Row { first, count };
         }
@@ -118,6 +117,7 @@ fn place_block<D: Disk>(
     ensures ended { MatchResult result
         (λ n. OnePlaced base bytes.now map.old map.new journal.old journal.new (D.meaning disk.old) (D.meaning disk.new) n)
         (λ _. RowTorn base map.old map.new journal.old journal.new (D.meaning disk.old) (D.meaning disk.new)) }
+    ensures narrow { IfOk result (λ n. n < MAX_BLOCKS) }
     ensures disk { UsesDisk (D.meaning disk.old) (D.meaning disk.new) result }
 {
     let mut block = [0; BLOCK_LEN];
@@ -156,6 +156,7 @@ fn place_bytes<D: Disk>(
     ensures ended { MatchResult result
         (λ blocks. IsLaid base bytes.now map.old map.new journal.old journal.new (D.meaning disk.old) (D.meaning disk.new) blocks.items)
         (λ _. IsTornOff base map.old map.new journal.old journal.new (D.meaning disk.old) (D.meaning disk.new)) }
+    ensures short { IfOk result (λ blocks. IsTrue (are_short blocks.items)) }
     ensures disk { UsesDisk (D.meaning disk.old) (D.meaning disk.new) result }
 {
     let mut taken = ArrayVec::new();

@@ -1,6 +1,6 @@
 -- A list with another element at one index.
 use Rattle.std.proofs.Common.{arith}
-use Rattle.lis_kept.proofs.Common.{rules, ◌≡◌, ◌⊎◌, ℕ, zero, suc, ◌<◌, ◌≤◌, ◌||◌, cond, Bool, true, false, Some, None, slice_get, List, [], ◌∷◌, length, set, get_or, refl, sym, ap, ◌∙◌, subst, inl, inr, list_any, cases_lt, and_parts, eqb-true, lt-ltb, same_Some, slice_get_within, get_or_from_slice_get, among_from_any, AxiomSlot, FreeAxiom, Pair, Limits, both_ways}
+use Rattle.lis_kept.proofs.Common.{rules, ◌≡◌, ◌⊎◌, ℕ, zero, suc, ◌<◌, ◌≤◌, ◌||◌, cond, Bool, true, false, Some, None, slice_get, List, [], ◌∷◌, length, set, get_or, refl, sym, ap, ◌∙◌, inl, inr, list_any, cases_lt, and_parts, eqb-true, lt-ltb, same_Some, slice_get_within, get_or_from_slice_get, among_from_any, AxiomSlot, FreeAxiom, Pair, Limits, both_ways}
 use Rattle.std.specs.List.{position, position_or_len}
 use Rattle.std.proofs.lemmas.List.Sums.{fails_before_first}
 use Rattle.std.proofs.lemmas.Option.{slice_get-get_or}
@@ -89,17 +89,14 @@ pair_is left right a is = search (rules, and_parts, eqb-true)
 pub free_place : (axioms : List AxiomSlot) (k : ℕ) → position is_free axioms ≡ Some k → slice_get axioms k ≡ Some FreeAxiom
 free_place axioms k is = let found = first_place is_free axioms FreeAxiom k is in found.0 ∙ ap Some (free_is (get_or axioms k FreeAxiom) found.1)
 
-pair_place : (axioms : List AxiomSlot) (left right k : ℕ) → position (is_pair left right) axioms ≡ Some k → slice_get axioms k ≡ Some (Pair left right)
-pair_place axioms left right k is = let found = first_place (is_pair left right) axioms FreeAxiom k is in found.0 ∙ ap Some (pair_is left right (get_or axioms k FreeAxiom) found.1)
+-- a pair that is there has a first slot; `seen` are the axioms as a call sees them
+pub pair_found : (axioms seen : List AxiomSlot) (left right : ℕ) → seen ≡ axioms → has_pair axioms left right ≡ true → position (is_pair left right) seen ≡ None → ⊥
+pair_found axioms seen left right are has none = search (rules, among_from_any, slot_at, first_is_some)
 
--- a pair that is there has a first slot; `seen` are the axioms as a call sees them, and `x` and `y` the numbers
-pub pair_found : (axioms seen : List AxiomSlot) (left right x y : ℕ) → seen ≡ axioms → x ≡ left → y ≡ right → has_pair axioms left right ≡ true → position (is_pair x y) seen ≡ None → ⊥
-pair_found axioms seen left right x y are lefts rights has none = search (rules, among_from_any, slot_at, first_is_some)
-
-pub pair_placed : (axioms seen : List AxiomSlot) (left right x y k : ℕ) → seen ≡ axioms → x ≡ left → y ≡ right → position (is_pair x y) seen ≡ Some k → slice_get axioms k ≡ Some (Pair left right)
-pair_placed axioms seen left right x y k are lefts rights is =
-    pair_place axioms left right k
-    (subst (λ n. position (is_pair left n) axioms ≡ Some k) rights (subst (λ n. position (is_pair n y) axioms ≡ Some k) lefts (ap (position (is_pair x y)) (sym are) ∙ is)))
+pub pair_placed : (axioms seen : List AxiomSlot) (left right k : ℕ) → seen ≡ axioms → position (is_pair left right) seen ≡ Some k → slice_get axioms k ≡ Some (Pair left right)
+pair_placed axioms seen left right k are is =
+    let found = first_place (is_pair left right) axioms FreeAxiom k (ap (position (is_pair left right)) (sym are) ∙ is) in
+    found.0 ∙ ap Some (pair_is left right (get_or axioms k FreeAxiom) found.1)
 
 -- some slot has the pair
 abbrev pub InSlot : List AxiomSlot → ℕ → ℕ → Type 0

@@ -175,9 +175,9 @@ module _ (k p : Metadata) (t u : Taxonomy) (left right slot : ℕ) (axioms : Lis
   )
 
 -- ---- why its edge is not refused
-pub link_refused : {T : Type 0} (p : Metadata) (t : Taxonomy) → AreHeld p t → (left right : ℕ) → MayLink left right p → (x y : ℕ) (fault : EdgeFault) (r : Result T EdgeFault) → r ≡ Err fault
-    → ((r ≡ Err Present) ↔ (has_edge t x y ≡ true)) → ((r ≡ Err Cycle) ↔ Leads t y x) → (r ≡ Err Absent → ⊥) → x ≡ left → y ≡ right → ⊥
-link_refused p t held left right may x y fault r is present cycle absent lefts rights = by fault is
+pub link_refused : {T : Type 0} (p : Metadata) (t : Taxonomy) → AreHeld p t → (left right : ℕ) → MayLink left right p → (fault : EdgeFault) (r : Result T EdgeFault) → r ≡ Err fault
+    → ((r ≡ Err Present) ↔ (has_edge t left right ≡ true)) → ((r ≡ Err Cycle) ↔ Leads t right left) → (r ≡ Err Absent → ⊥) → ⊥
+link_refused p t held left right may fault r is present cycle absent = by fault is
   where
     plain : (to : List ℕ) → word_of p.dict right ≡ Some to → is_plain_word to ≡ true
     plain to at = subst (λ (w : List ℕ). is_plain_word w ≡ true) (same_Some may.to to (sym may.is_right ∙ at)) may.plain
@@ -186,12 +186,9 @@ link_refused p t held left right may x y fault r is present cycle absent lefts r
     not_linked = ap₂ (λ a b. a || b) (own_to_plain (declared_of p) (word_of p.dict left) (word_of p.dict right) plain) may.new
 
     by : (fault : EdgeFault) → r ≡ Err fault → ⊥
-    by Present said =
-        let edge : has_edge t left right ≡ true = subst (λ n. has_edge t left n ≡ true) rights (subst (λ n. has_edge t n y ≡ true) lefts (present.0 said)) in
-        both_ways (is_linked p left right) not_linked (edge_linked p held.sound.dict left right (sym (held.links.edges left right) ∙ edge))
+    by Present said = both_ways (is_linked p left right) not_linked (edge_linked p held.sound.dict left right (sym (held.links.edges left right) ∙ present.0 said))
     by Cycle said =
-        let leads : Leads t right left = subst (λ n. Leads t n left) rights (subst (λ n. Leads t y n) lefts (cycle.0 said)) in
-        let back = up_from_leads p held.sound t (tells_links p held.sound.dict t held.links) right left may.to may.from may.is_right may.is_left leads in
+        let back = up_from_leads p held.sound t (tells_links p held.sound.dict t held.links) right left may.to may.from may.is_right may.is_left (cycle.0 said) in
         both_ways (has_word (up (declared_of p) (axioms_of p) may.to) may.from) may.no_circle (has_word_from_among (up (declared_of p) (axioms_of p) may.to) may.from back)
     by Absent said = absent said
 
@@ -294,10 +291,10 @@ module _ (k p : Metadata) (t u : Taxonomy) (left right slot : ℕ) (axioms : Lis
   )
 
 -- ---- why its edge is not missing
-pub unlink_missed : {T : Type 0} (p : Metadata) (t : Taxonomy) → AreHeld p t → (left right : ℕ) → MayUnlink left right p → (x y : ℕ) (fault : EdgeFault) (r : Result T EdgeFault) → r ≡ Err fault
-    → ((r ≡ Err Absent) ↔ (has_edge t x y ≡ false)) → r ≡ Err Absent → x ≡ left → y ≡ right → ⊥
-unlink_missed p t held left right may x y fault r is absent only lefts rights =
-    both_ways (has_edge t left right) (subst (λ n. has_edge t left n ≡ false) rights (subst (λ n. has_edge t n y ≡ false) lefts (absent.0 only)))
+pub unlink_missed : {T : Type 0} (p : Metadata) (t : Taxonomy) → AreHeld p t → (left right : ℕ) → MayUnlink left right p → (r : Result T EdgeFault)
+    → ((r ≡ Err Absent) ↔ (has_edge t left right ≡ false)) → r ≡ Err Absent → ⊥
+unlink_missed p t held left right may r absent only =
+    both_ways (has_edge t left right) (absent.0 only)
     (held.links.edges left right ∙ by (is_head_by (word_of p.dict left) (word_of p.dict right) || is_next_test p.dict p.declared left right))
   where
     by : (b : Bool) → (b || has_pair p.axioms left right) ≡ true

@@ -1,8 +1,8 @@
 -- A file slot that gets other numbers.
 use Rattle.std.proofs.Common.{arith}
-use Rattle.lis_kept.proofs.Common.{common_steps, rules, ◌≡◌, ◌⊎◌, ℕ, ◌+◌, ◌<◌, ◌≤◌, ◌||◌, nat_lt, Bool, true, false, List, [], length, get_or, set, map, is_some, IsSome, refl, sym, ap, ◌∙◌, subst, inl, inr, length-set, get_or-set_same, get_or-set_other, list_all, cases_eq, lt-ltb, eqb-true, and_parts, or_cases, among_from_any, among_from_contains, length-marked, word_of, rec_at, Ext, has, Taxonomy, all_among, filter_le, among_where, both_ways, false_from_ne_true, marked, all_from}
-use Rattle.std.specs.List.{All, range_with_len}
-use Rattle.std.proofs.lemmas.List.FromFn.{length-range_with_len}
+use Rattle.lis_kept.proofs.Common.{common_steps, rules, ◌≡◌, ◌⊎◌, ℕ, ◌+◌, ◌<◌, ◌≤◌, ◌||◌, nat_lt, Bool, true, false, List, [], length, get_or, set, map, is_some, IsSome, refl, sym, ap, ◌∙◌, subst, inl, inr, length-set, get_or-set_same, get_or-set_other, list_all, cases_eq, lt-ltb, eqb-true, and_parts, or_cases, among_from_any, among_from_contains, length-marked, word_of, rec_at, Ext, has, Taxonomy, all_among, among_where, both_ways, false_from_ne_true, marked, all_from}
+use Rattle.std.specs.List.{All}
+use Rattle.lis_ext.proofs.Counted.{where_le}
 use Rattle.lis_ext.specs.Ext.{set_of, with_marks}
 use Rattle.lis_ext.specs.Numbers.{has_number, differs, numbers_where}
 use Rattle.lis_kept.specs.Metadata.{Metadata}
@@ -21,10 +21,6 @@ same_numbers old new n same = search (rules)
 -- with nothing marked before, what differs is marked
 pub marks_differ : (e : Ext) (old new : List ℕ) → e.marks ≡ [] → with_marks e (differs old new) ≡ numbers_where e.props (differs old new)
 marks_differ e old new none = ap (λ ms. numbers_where e.props (λ n. has_number ms n || differs old new n)) none
-
-where_le : (props : ℕ) (test : ℕ → Bool) → length (numbers_where props test) ≤ props
-unfolding numbers_where
-where_le props test = omega (arith, filter_le test (range_with_len 0 props), length-range_with_len 0 props)
 
 pub few_where : (props : ℕ) (test : ℕ → Bool) (ns : List ℕ) → ns ≡ numbers_where props test → length ns ≤ props
 few_where props test ns is = omega (arith, ap length is, where_le props test)

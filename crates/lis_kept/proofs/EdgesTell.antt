@@ -1,7 +1,7 @@
 -- The edges give the links: each link between tests is a chain of edges from one to the next.
 use Rattle.std.proofs.Common.{arith}
 use Rattle.std.proofs.lemmas.Bool.{cases_Bool}
-use Rattle.lis_kept.proofs.Common.{rules, ◌≡◌, ◌⊎◌, inl, inr, sym, ◌∙◌, ℕ, zero, suc, ◌<◌, ◌+◌, ◌||◌, true, false, Option, IsDict, or_cases, or_left, or_right, Taxonomy, has_edge, word_of}
+use Rattle.lis_kept.proofs.Common.{◌≡◌, ◌⊎◌, inl, inr, sym, ◌∙◌, ℕ, zero, suc, ◌<◌, ◌+◌, ◌||◌, true, false, Option, IsDict, or_cases, or_left, or_right, Taxonomy, has_edge, word_of}
 use Rattle.lis_taxonomy.specs.Taxonomy.{Entails as Leads}
 use Rattle.lis_words.specs.declared.test.Test.{Test}
 use Rattle.lis_kept.specs.Metadata.{Metadata}

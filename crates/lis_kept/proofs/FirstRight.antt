@@ -1,6 +1,6 @@
 -- Of the right words of axioms whose left word has a number, the first after another word.
 use Rattle.std.proofs.Common.{option_to_list, filter}
-use Rattle.lis_kept.proofs.Common.{common_steps, rules, ◌≡◌, ℕ, ◌+◌, ◌<◌, ◌==◌, ◌&&◌, Bool, true, false, cond, if◌then◌else◌, Option, ◌⊎◌, subst, Some, None, List, [], ◌∷◌, ◌++◌, length, get_or, map, take, refl, sym, ap, ap₂, ◌∙◌, inl, inr, insert_key, find, flat_map, fold, IsStrictlySortedBy, match_ordering, Ordering, Less, Equal, Greater, eqb-true, take_more, same_Some, Among, among_filter, among_map, among_flat_map, flat_map_among, sorted_insert_key, Dict, number_of, word_of, number_from_word, AxiomSlot, FreeAxiom, Pair, word_cmp, same_word, pair_exact, word_order, same_word_decides, false_from_ne_true, filter_among, map_among, pair_order, same_words}
+use Rattle.lis_kept.proofs.Common.{common_steps, rules, ◌≡◌, ℕ, ◌+◌, ◌<◌, ◌==◌, ◌&&◌, Bool, true, false, cond, if◌then◌else◌, Option, ◌⊎◌, subst, Some, None, List, [], ◌∷◌, ◌++◌, length, get_or, map, take, refl, sym, ap, ap₂, ◌∙◌, inl, inr, insert_key, find, flat_map, fold, IsStrictlySortedBy, match_ordering, Ordering, Less, Equal, Greater, eqb-true, take_more, same_Some, Among, among_filter, among_map, among_flat_map, flat_map_among, sorted_insert_key, Dict, IsDict, number_of, word_of, number_from_word, AxiomSlot, FreeAxiom, Pair, word_cmp, same_word, pair_exact, word_order, same_word_decides, false_from_ne_true, filter_among, map_among, pair_order, same_words}
 use native.Mathlib.Omega.{arith}
 use Rattle.std.specs.List.{AllByRecursion}
 use Rattle.std.proofs.Math.Bool.{and-true}
@@ -17,7 +17,6 @@ use Rattle.lis_model.specs.Sets.{set_of}
 use Rattle.lis_model.specs.State.{pair_cmp}
 use Rattle.lis_laws.proofs.Members.{word_exact, among_set_of, set_of_among, sorted_set_of}
 use Rattle.lis_kept.specs.Behind.{rights_of, is_behind, is_before, right_by}
-use Rattle.lis_kept.specs.Inside.{IsShort}
 use Rattle.lis_kept.specs.Metadata.{Metadata}
 use Rattle.lis_kept.specs.Sound.{AreSound}
 use Rattle.lis_kept.specs.Telling.{pair_by, pair_told, pairs_told, axioms_of}
@@ -88,7 +87,7 @@ module _ (left : List ℕ) where
       by false e rest = rest
 
 -- ---- slots
-module _ (d : Dict) (short : IsShort d) (number : ℕ) (left : List ℕ) (named : word_of d number ≡ Some left) where
+module _ (d : Dict) (kept : IsDict d) (number : ℕ) (left : List ℕ) (named : word_of d number ≡ Some left) where
   abbrev axioms_in : List AxiomSlot → List (List ℕ × List ℕ)
   axioms_in slots = fold (insert_key pair_cmp) [] (pairs_told d slots)
 
@@ -111,7 +110,7 @@ module _ (d : Dict) (short : IsShort d) (number : ℕ) (left : List ℕ) (named 
           at pair right lefts FreeAxiom there told = absurd told
           at pair right lefts (Pair x y) there told =
               let names = only_pair (word_of d x) (word_of d y) pair told in
-              let same : x ≡ number = same_Some x number (sym (number_from_word d short.dict left x (names.0 ∙ ap Some lefts)) ∙ number_from_word d short.dict left number named) in
+              let same : x ≡ number = same_Some x number (sym (number_from_word d kept left x (names.0 ∙ ap Some lefts)) ∙ number_from_word d kept left number named) in
               let is : right_by d number (Pair x y) ≡ Some w = ap (λ b. if b then word_of d y else None) (eq-eqb x number same) ∙ (names.1 ∙ ap Some right) in
               set_of_among (flat_map right_in slots) w (flat_map_among right_in slots (Pair x y) w there (subst (λ o. Among (option_to_list o) w) (sym is) (inl refl)))
 
@@ -156,12 +155,12 @@ abbrev pub FirstSoFar : Dict → ℕ → Option (List ℕ) → List AxiomSlot �
 FirstSoFar d number last slots first =
     (left : List ℕ) → word_of d number ≡ Some left → first ≡ find (is_behind last) (rights_of (fold (insert_key pair_cmp) [] (pairs_told d slots)) left)
 
-pub first_more : (d : Dict) (number : ℕ) (last first right now : Option (List ℕ)) (slots : List AxiomSlot) (n : ℕ) → IsShort d → n < length slots → right ≡ right_by d number (get_or slots n FreeAxiom)
+pub first_more : (d : Dict) (number : ℕ) (last first right now : Option (List ℕ)) (slots : List AxiomSlot) (n : ℕ) → IsDict d → n < length slots → right ≡ right_by d number (get_or slots n FreeAxiom)
     → now ≡ taken last first right → FirstSoFar d number last (take n slots) first → FirstSoFar d number last (take (n + 1) slots) now
-first_more d number last first right now slots n short within is taken_is so_far left named =
+first_more d number last first right now slots n kept within is taken_is so_far left named =
     taken_is
     ∙ (ap₂ (taken last) (so_far left named) is
-    ∙ (sym (slot_taken d short number left named last (take n slots) (get_or slots n FreeAxiom))
+    ∙ (sym (slot_taken d kept number left named last (take n slots) (get_or slots n FreeAxiom))
     ∙ ap (λ xs. find (is_behind last) (rights_of (fold (insert_key pair_cmp) [] (pairs_told d xs)) left)) (sym (take_more slots n FreeAxiom within))))
 
 -- ---- whether a right side is taken

@@ -8,7 +8,6 @@ use Rattle.lis_ext.proofs.Counted.{each_below}
 use Rattle.lis_fields.specs.Layouts.{is_axiom, is_file, is_record}
 use Rattle.lis_kept.specs.Metadata.{Metadata, axiom_at, file_by, record_at}
 use Rattle.lis_kept.specs.Sound.{AreSound, IsSoundAxiom, is_sound_record, FreeSlotsAreEmpty}
-use Rattle.lis_kept.specs.Inside.{IsShort}
 use Rattle.lis_kept.specs.Links.{AreHeld}
 use Rattle.lis_kept.proofs.InArea.{few_properties}
 use Rattle.lis_kept.proofs.Filing.{among_from_number}
@@ -40,10 +39,6 @@ module _ (k : Metadata) (sound : AreSound k) where
       let found = some_word (word_of k.dict n) some in
       let below = number_below k.dict sound.dict found.0 n (number_from_word k.dict sound.dict found.0 n found.1) in
       omega (arith, below, sound.numbers)
-
-  -- and so its number has 16 bits
-  pub short_dict : IsShort k.dict
-  short_dict = search (rules, named_below, few_properties)
 
   pub axioms_formed : (n : ℕ) → is_axiom (axiom_at k.axioms n) ≡ true
   axioms_formed n = by (slice_get k.axioms n) refl

@@ -82,5 +82,5 @@ first_edge t n o y none = search (rules, has_edge-with_edge, eq-eqb, or-false, s
 pub last_edge : (t : Taxonomy) (n : ℕ) (o : Option ℕ) (y : ℕ) → has_edge t n y ≡ is_at o y → has_edge (without_edge_to t n o) n y ≡ false
 last_edge t n o y only = search (rules, has_edge-without_edge, eq-eqb, swapped)
 
-pub not_absent : {T : Type 0} (t : Taxonomy) (n h x y : ℕ) (fault : EdgeFault) (r : Result T EdgeFault) → r ≡ Err fault → ((r ≡ Err Absent) ↔ (has_edge t x y ≡ false)) → r ≡ Err Absent → x ≡ n → y ≡ h → has_edge t n h ≡ true → ⊥
-not_absent t n h x y fault r is absent only left right there = search (rules, both_ways)
+pub not_absent : {T : Type 0} (t : Taxonomy) (n h : ℕ) (r : Result T EdgeFault) → ((r ≡ Err Absent) ↔ (has_edge t n h ≡ false)) → r ≡ Err Absent → has_edge t n h ≡ true → ⊥
+not_absent t n h r absent only there = search (rules, both_ways)

@@ -36,11 +36,11 @@ past_none Stronger a = refl
 abbrev pub IsSeen : Dict → ℕ → ℕ → Type 0
 IsSeen d end n = (k : ℕ) × (k < end) × (e : List ℕ × ℕ) × (slice_get d.entries k ≡ Some e) × (e.1 ≡ n)
 
-seen_more : (d : Dict) (k n : ℕ) → (e : List ℕ × ℕ) → slice_get d.entries k ≡ Some e → e.1 ≡ n → (P : ℕ → Type 0) → ((r : ℕ) → IsSeen d k r → P r) → P n → (r : ℕ) → IsSeen d (k + 1) r → P r
-seen_more d k n e at is P before here r seen = by (cases_eq seen.0 k)
+seen_more : (d : Dict) (k : ℕ) → (e : List ℕ × ℕ) → slice_get d.entries k ≡ Some e → (P : ℕ → Type 0) → ((r : ℕ) → IsSeen d k r → P r) → P e.1 → (r : ℕ) → IsSeen d (k + 1) r → P r
+seen_more d k e at P before here r seen = by (cases_eq seen.0 k)
   where
     by : (seen.0 ≡ k) ⊎ (seen.0 ≡ k → ⊥) → P r
-    by (inl last) = subst P (sym is ∙ (ap (λ (x : List ℕ × ℕ). x.1) (same_Some e seen.2 (sym at ∙ subst (λ j. slice_get d.entries j ≡ Some seen.2) last seen.3)) ∙ seen.4)) here
+    by (inl last) = subst P (ap (λ (x : List ℕ × ℕ). x.1) (same_Some e seen.2 (sym at ∙ subst (λ j. slice_get d.entries j ≡ Some seen.2) last seen.3)) ∙ seen.4) here
     by (inr other) = before r (seen.0, omega (arith, seen.1), seen.2, seen.3, seen.4)
 
 module _ (side : Side) (d : Dict) (bits : List Bool) (test : Test) where
@@ -121,36 +121,36 @@ module _ (side : Side) (d : Dict) (bits : List Bool) (test : Test) where
             by true in_it = none-some f.test (sym (ap (λ b. if b then test_by (word_of d f.number) else None) in_it ∙ ap test_by none) ∙ near.there)
 
   -- ---- one place more
-  module _ (k n : ℕ) (e : List ℕ × ℕ) (at : slice_get d.entries k ≡ Some e) (is : e.1 ≡ n) where
+  module _ (k : ℕ) (e : List ℕ × ℕ) (at : slice_get d.entries k ≡ Some e) where
     -- a number that has no test on that side
-    pub not_past : (o : Option Found) → NearestAmong k o → is_past side (declared_test d bits n) (Some test) ≡ false → NearestAmong (k + 1) o
-    not_past None near none = seen_more d k n e at is (λ r. Past r → ⊥) near (both_ways (is_past side (declared_test d bits n) (Some test)) none)
+    pub not_past : (o : Option Found) → NearestAmong k o → is_past side (declared_test d bits e.1) (Some test) ≡ false → NearestAmong (k + 1) o
+    not_past None near none = seen_more d k e at (λ r. Past r → ⊥) near (both_ways (is_past side (declared_test d bits e.1) (Some test)) none)
     not_past (Some f) near none = record {
       there = near.there;
       past = near.past;
-      nearest = seen_more d k n e at is (λ r. Past r → is_past side (Some f.test) (declared_test d bits r) ≡ false) near.nearest
-          (λ past. absurd (both_ways (is_past side (declared_test d bits n) (Some test)) none past));
+      nearest = seen_more d k e at (λ r. Past r → is_past side (Some f.test) (declared_test d bits r) ≡ false) near.nearest
+          (λ past. absurd (both_ways (is_past side (declared_test d bits e.1) (Some test)) none past));
     }
 
     -- and one that has one
-    module _ (found : Test) (there : declared_test d bits n ≡ Some found) (past : is_past side (Some found) (Some test) ≡ true) where
+    module _ (found : Test) (there : declared_test d bits e.1 ≡ Some found) (past : is_past side (Some found) (Some test) ≡ true) where
       -- that is no nearer
       pub not_nearer_by : (o : Option Found) (answer : Bool) → MatchOption o (answer ≡ true) (λ f. answer ≡ is_past side (Some f.test) (Some found)) → answer ≡ false → NearestAmong k o → NearestAmong (k + 1) o
       not_nearer_by None answer says out near = absurd (both_ways answer out says)
       not_nearer_by (Some f) answer says out near = record {
         there = near.there;
         past = near.past;
-        nearest = seen_more d k n e at is (λ r. Past r → is_past side (Some f.test) (declared_test d bits r) ≡ false) near.nearest
+        nearest = seen_more d k e at (λ r. Past r → is_past side (Some f.test) (declared_test d bits r) ≡ false) near.nearest
             (λ h. ap (is_past side (Some f.test)) there ∙ (sym says ∙ out));
       }
 
       -- that is nearer
       pub nearer_by : (o : Option Found) (answer : Bool) → MatchOption o (answer ≡ true) (λ f. answer ≡ is_past side (Some f.test) (Some found)) → answer ≡ true → NearestAmong k o
-          → NearestAmong (k + 1) (Some (record { number = n; test = found }))
+          → NearestAmong (k + 1) (Some (record { number = e.1; test = found }))
       nearer_by o answer says in_it near = record {
         there = there;
         past = past;
-        nearest = seen_more d k n e at is (λ r. Past r → is_past side (Some found) (declared_test d bits r) ≡ false) (others o says near)
+        nearest = seen_more d k e at (λ r. Past r → is_past side (Some found) (declared_test d bits r) ≡ false) (others o says near)
             (λ h. ap (is_past side (Some found)) there ∙ past_apart side (Some found));
       }
         where

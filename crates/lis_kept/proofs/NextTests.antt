@@ -1,13 +1,13 @@
 -- The next weaker test of a test, and what becomes of it when a test is added or removed.
 use Rattle.std.proofs.Common.{arith}
-use Rattle.lis_kept.proofs.Common.{rules, ◌≡◌, ◌⊎◌, inl, inr, refl, sym, ap, ap₂, ◌∙◌, subst, ℕ, ◌+◌, ◌<◌, ◌≤◌, ◌==◌, ◌&&◌, ◌||◌, not, if◌then◌else◌, Bool, true, false, Option, Some, None, is_some, List, same_Some, and_parts, and_from, eqb-true, both_ways, false_from_ne_true, not-true, not_from_false, are_weaker, same_tests, among_from_any, any_from_among, Dict, IsDict, word_of, number_of, number_from_word, number_below}
+use Rattle.lis_kept.proofs.Common.{rules, ◌≡◌, ◌⊎◌, inl, inr, refl, sym, ap, ap₂, ◌∙◌, subst, ℕ, ◌<◌, ◌==◌, ◌&&◌, not, if◌then◌else◌, Bool, true, false, Option, Some, None, is_some, List, same_Some, and_parts, and_from, eqb-true, both_ways, false_from_ne_true, not-true, not_from_false, are_weaker, same_tests, among_from_any, any_from_among, Dict, IsDict, word_of, number_of, number_from_word, number_below}
 use Rattle.std.proofs.lemmas.Bool.{eq-eqb}
 use Rattle.std.specs.List.{range_with_len}
 use Rattle.lis_graph.proofs.Ranges.{range_among}
 use Rattle.lis_blockmap.specs.Bitmap.{is_taken}
 use Rattle.lis_words.specs.declared.test.Test.{Test}
 use Rattle.lis_words.specs.Words.{test_of}
-use Rattle.lis_laws.proofs.Chains.{weaker_trans, tests_by}
+use Rattle.lis_laws.proofs.Chains.{tests_by}
 use Rattle.lis_kept.specs.Edges.{is_at}
 use Rattle.lis_kept.specs.declared.test_edges.Side.TheVariants.{Weaker, Stronger}
 use Rattle.lis_kept.specs.TestEdges.{test_by, declared_test, is_test_link, is_between, is_next_test, IsNeighbour}
@@ -76,9 +76,6 @@ module _ (d : Dict) (kept : IsDict d) (bits : List Bool) where
     where
       below : (n : ℕ) → is_some (test n) ≡ true → n < d.props
       below n some = let at = has_test d bits n some in number_below d kept at.word n (number_from_word d kept at.word n at.is)
-
-  trans : (p q r : ℕ) → link p q ≡ true → link q r ≡ true → link p r ≡ true
-  trans p q r h g = weaker_trans (test r) (test q) (test p) g h
 
   -- two numbers to which one links, and two that link to one
   abbrev pub Ranked : ℕ → ℕ → Type 0

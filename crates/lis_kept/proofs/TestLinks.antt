@@ -1,5 +1,5 @@
 -- The links between declared tests, by their numbers.
-use Rattle.lis_kept.proofs.Common.{rules, ◌≡◌, ◌⊎◌, ℕ, if◌then◌else◌, ◌||◌, true, false, Option, Some, None, is_some, List, refl, sym, ap, ap₂, ◌∙◌, subst, inl, inr, and_parts, or_cases, IsDict, word_of, number_from_word, Taxonomy, has_edge, same_word, has_word, is_valued, head_bytes, is_test, are_weaker, same_word_decides, among_from_has_word, OwnLink, own_link, Head, Weaker, and_from, or_left, or_right, both_ways, false_from_ne_true, has_word_from_among, same_tests}
+use Rattle.lis_kept.proofs.Common.{◌≡◌, ◌⊎◌, ℕ, ◌||◌, true, false, Option, Some, None, is_some, List, refl, sym, ap, ap₂, ◌∙◌, subst, inl, inr, and_parts, or_cases, IsDict, word_of, number_from_word, Taxonomy, has_edge, same_word, has_word, is_valued, head_bytes, is_test, are_weaker, same_word_decides, among_from_has_word, OwnLink, own_link, Head, Weaker, and_from, or_left, or_right, both_ways, false_from_ne_true, has_word_from_among, same_tests}
 use Rattle.lis_blockmap.specs.Bitmap.{is_taken}
 use Rattle.lis_words.specs.Words.{test_of}
 use Rattle.lis_words.proofs.Tests.{plain_not_test}

@@ -1,7 +1,7 @@
 -- The order of tests: of two tests on one side of a third, one is weaker, and two words of the same test are one.
 use Rattle.std.proofs.Common.{arith, codes, nat_le}
 use Rattle.std.specs.Prelude.{◌^◌}
-use Rattle.lis_kept.proofs.Common.{rules, ◌≡◌, ◌⊎◌, inl, inr, refl, sym, ap, ap₂, ◌∙◌, ℕ, ◌+◌, ◌-◌, ◌<◌, ◌≤◌, ◌*◌, ◌++◌, ◌&&◌, ◌||◌, nat_lt, ◌==◌, Bool, true, false, cond, not, Option, Some, None, is_some, List, [], ◌∷◌, length, take, drop, get_or, same_Some, and_parts, or_cases, eqb-true, lt-ltb, ltb-true, not-true, are_weaker, same_word, cases_lt}
+use Rattle.lis_kept.proofs.Common.{◌≡◌, ◌⊎◌, inl, inr, refl, sym, ap, ap₂, ◌∙◌, ℕ, ◌+◌, ◌-◌, ◌<◌, ◌≤◌, ◌++◌, ◌&&◌, ◌||◌, nat_lt, ◌==◌, Bool, true, false, cond, not, Option, Some, None, is_some, List, [], ◌∷◌, length, take, drop, get_or, same_Some, and_parts, or_cases, eqb-true, lt-ltb, ltb-true, not-true, are_weaker, same_word, cases_lt}
 use Rattle.std.specs.Char.{is_ascii_digit}
 use Rattle.std.specs.Cmp.Lexicographic.{same_text}
 use Rattle.std.specs.List.{list_all}

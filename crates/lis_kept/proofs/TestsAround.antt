@@ -1,6 +1,5 @@
 -- The next weaker tests with a number's test and without it.
-use Rattle.std.proofs.Common.{arith}
-use Rattle.lis_kept.proofs.Common.{rules, ◌≡◌, ◌⊎◌, inl, inr, refl, sym, ap, ap₂, ◌∙◌, subst, ℕ, ◌==◌, ◌&&◌, ◌||◌, not, Bool, true, false, Option, None, List, eqb-true, ne_eqb, and_parts, both_ways, false_from_ne_true, are_weaker, Dict, IsDict, cases_eq, same_tests}
+use Rattle.lis_kept.proofs.Common.{◌≡◌, ◌⊎◌, inl, inr, refl, sym, ap, ap₂, ◌∙◌, subst, ℕ, ◌==◌, ◌&&◌, ◌||◌, not, Bool, true, false, Option, None, List, eqb-true, ne_eqb, and_parts, both_ways, false_from_ne_true, are_weaker, Dict, IsDict, cases_eq, same_tests}
 use Rattle.std.proofs.lemmas.Bool.{eq-eqb, cases_Bool}
 use Rattle.lis_laws.proofs.Chains.{weaker_trans, weaker_apart}
 use Rattle.lis_kept.specs.Edges.{is_at}

@@ -1,6 +1,6 @@
 -- What the tests say by which numbers in use are found.
 use Rattle.std.proofs.Common.{arith}
-use Rattle.lis_kept.proofs.Common.{common_steps, rules, ◌≡◌, ◌⊎◌, inl, inr, slice_get, refl, sym, ap, ap₂, ◌∙◌, ℕ, ◌<◌, ◌==◌, ◌||◌, Bool, true, false, List, [], ◌∷◌, length, Option, Some, is_some, IsSome, IfSome, IfNone, list_any, and_parts, ne_eqb, eqb-true, or_cases, Among, among_from_any, contains_from_among, NoneTrue, get, Dict, IsDict, word_of, number_from_word, word_from_number, Ext, has, AxiomSlot, FreeAxiom, Pair, is_valued, same_word_decides, head_not_valued, and_from, both_ways, false_from_ne_true, or_left, or_right, any_from_among, same_tests}
+use Rattle.lis_kept.proofs.Common.{common_steps, rules, ◌≡◌, ◌⊎◌, inl, inr, slice_get, refl, sym, ap, ap₂, ◌∙◌, ℕ, ◌<◌, ◌||◌, Bool, true, false, List, [], ◌∷◌, length, Option, Some, list_any, and_parts, eqb-true, or_cases, Among, among_from_any, contains_from_among, Dict, IsDict, word_of, number_from_word, word_from_number, Ext, has, AxiomSlot, FreeAxiom, Pair, is_valued, same_word_decides, head_not_valued, and_from, both_ways, or_left, or_right, any_from_among, same_tests}
 use Rattle.std.proofs.lemmas.Bool.{eq-eqb}
 use Rattle.std.proofs.lemmas.List.{get_or_default}
 use Rattle.lis_blockmap.specs.Bitmap.{is_taken}
@@ -76,10 +76,6 @@ or_swap a b x y = grind arith
 pub any_or : {X : Type 0} (f g : X → Bool) (xs : List X) → list_any (λ x. f x || g x) xs ≡ (list_any f xs || list_any g xs)
 any_or f g [] = refl
 any_or f g (x ∷ xs) = ap (λ b. (f x || g x) || b) (any_or f g xs) ∙ or_swap (f x) (g x) (list_any f xs) (list_any g xs)
-
--- a side past all numbers has no word
-pub not_on_left : (d : Dict) → ((n : ℕ) → IsSome (word_of d n) → n < 65536) → (left number : ℕ) → number < 65536 → (left < 65536 → ⊥) → ((left == number) || is_head_by (word_of d left) (word_of d number)) ≡ false
-not_on_left d below left number fits past = search (rules, ne_eqb)
 
 -- ---- what is left
 pub used_on_left : (k : Metadata) (n : ℕ) → is_taken k.declared n ≡ false → is_had k.ext n ≡ false → is_named_left k n ≡ is_used k n

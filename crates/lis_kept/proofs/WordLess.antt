@@ -1,6 +1,6 @@
 -- A declared word that loses its number.
 use Rattle.std.proofs.Common.{filter, arith}
-use Rattle.lis_kept.proofs.Common.{common_steps, rules, ◌≡◌, ◌⊎◌, inl, inr, refl, sym, ap, ap₂, ◌∙◌, subst, ℕ, ◌<◌, ◌==◌, ◌&&◌, ◌||◌, not, Bool, true, false, List, length, set, slice_get, Option, Some, None, is_some, cases_eq, eqb-true, and_parts, is_prop, is_declarable, declarable_not_valued, head_bytes, length-set, get_or-set_same, get_or-set_other, list_any, cases_lt, among_from_contains, Dict, word_of, without_word, Ext, has, Pair, Taxonomy, has_edge, same_word, both_ways, false_from_ne_true, get_or_past, any_from_among, neither}
+use Rattle.lis_kept.proofs.Common.{common_steps, rules, ◌≡◌, ◌⊎◌, inl, inr, refl, sym, ap, ap₂, ◌∙◌, subst, ℕ, ◌==◌, ◌&&◌, ◌||◌, not, Bool, true, false, List, length, set, slice_get, Option, Some, None, is_some, cases_eq, eqb-true, and_parts, is_prop, is_declarable, declarable_not_valued, head_bytes, length-set, get_or-set_same, get_or-set_other, list_any, cases_lt, among_from_contains, Dict, word_of, without_word, Ext, has, Pair, Taxonomy, has_edge, same_word, both_ways, false_from_ne_true, get_or_past, any_from_among, neither}
 use Rattle.std.proofs.lemmas.Bool.{eq-eqb}
 use Rattle.std.proofs.Math.Bool.{or-false}
 use Rattle.lis_blockmap.specs.Bitmap.{is_taken}

@@ -1,12 +1,11 @@
 -- How one block is spelled and staged. No public clause cites this module.
-use Rattle.std.specs.Prelude.{◌≡◌, ◌≢◌, ◌⊎◌, ℕ, ◌+◌, ◌<◌, ◌≤◌, Bool, true, false, List, length, take, count_by, IsSome}
-use Rattle.lis_limits.specs.declared.TheConstants.{FILE_LEN, NUMBERS, PROP_LEN}
+use Rattle.std.specs.Prelude.{◌≡◌, ◌≢◌, ◌⊎◌, ℕ, ◌+◌, ◌<◌, ◌≤◌, Bool, true, false, List, length, take, count_by}
+use Rattle.lis_limits.specs.declared.TheConstants.{FILE_LEN, PROP_LEN}
 use Rattle.lis_ports.specs.Bytes.{part}
 use Rattle.lis_journal.specs.Journal.{Held, shape_of}
 use Rattle.lis_journal.specs.Images.{look}
 use Rattle.lis_journal.specs.Phases.{looked}
 use Rattle.lis_slots.specs.Slots.{place}
-use Rattle.lis_dict.specs.Dict.{Dict, IsDict, word_of}
 use Rattle.lis_model.specs.Image.{properties_start}
 use Rattle.lis_model.specs.declared.limits.Limits.{Limits}
 use Rattle.lis_kept.specs.Metadata.{Metadata}
@@ -24,11 +23,6 @@ bytes_in limits Bitmap m block = block
 -- these bytes are those of the block with this number, whatever area it is in
 abbrev pub IsBlock : Metadata → ℕ → List ℕ → Type 0
 IsBlock k n block = (area : Area) (m : ℕ) → m < (slots_of k.limits area).count → block_of k.limits area m ≡ n → bytes_in k.limits area m block ≡ spelled k area m
-
--- a dictionary whose numbers have 16 bits
-pub record IsShort (d : Dict) : Type 0 where
-  pub dict : IsDict d
-  pub short : (n : ℕ) → IsSome (word_of d n) → n < NUMBERS
 
 -- one block is staged as memory spells it
 pub record StagesBlock (k : Metadata) (n : ℕ) (old new : Held) : Type 0 where

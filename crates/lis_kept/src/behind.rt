@@ -4,7 +4,7 @@ ghost use Rattle.std.specs.Prelude.{◌≡◌, ℕ, Some, List, []};
 ghost use Rattle.std.specs.BTreeSet.{insert_key};
 ghost use Rattle.std.specs.List.{find, fold};
 ghost use Rattle.std.specs.Option.{option_map};
-ghost use Rattle.lis_dict.specs.Dict.{word_of};
+ghost use Rattle.lis_dict.specs.Dict.{IsDict, word_of};
 ghost use Rattle.lis_model.specs.State.{pair_cmp};
 ghost use Rattle.lis_kept.specs.Behind.{rights_of, is_behind, is_before, right_by};
 ghost use Rattle.lis_kept.specs.Telling.{pairs_told, axioms_of};
@@ -49,6 +49,7 @@ fn right_of(dict: &Dict, slot: AxiomSlot, left: u32) -> Option<Word>
 
 // Of the right words of axioms whose left word has this number, the first after the last one.
 fn first_right(dict: &Dict, axioms: &[AxiomSlot], left: u32, last: Option<&Word>) -> Option<Word>
+    requires { IsDict dict.now }
     ensures { (word : List ℕ) → word_of dict.now left ≡ Some word
         → result ≡ find (is_behind (option_map (λ w. w.now) last.entry)) (rights_of (fold (insert_key pair_cmp) [] (pairs_told dict.now axioms.now)) word) }
 {

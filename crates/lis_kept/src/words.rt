@@ -121,6 +121,7 @@ fn has_head(dict: &Dict, number: u32, head: u32) -> bool
 
 // Whether a number is that of an axiom's left side, or of its head.
 fn is_on_left(dict: &Dict, slot: AxiomSlot, number: u32) -> bool
+    requires { IsDict dict.now }
     ensures { result ≡ (is_left_of number slot || is_left_head_of dict.now number slot) }
 {
     let AxiomSlot::Pair(left, _) = slot else {
@@ -131,6 +132,7 @@ fn is_on_left(dict: &Dict, slot: AxiomSlot, number: u32) -> bool
 
 // Whether a number is the left side of an axiom, or the head of one.
 fn is_named_left(dict: &Dict, axioms: &[AxiomSlot], number: u32) -> bool
+    requires { IsDict dict.now }
     ensures { result ≡ list_any (λ slot. is_left_of number slot || is_left_head_of dict.now number slot) axioms.now }
 {
     axioms.iter().any(|slot| is_on_left(dict, *slot, number))

@@ -1,8 +1,8 @@
 //! Removing a declared word.
 
-ghost use Rattle.std.specs.Prelude.{◌≡◌, ℕ, Bool, is_some, IsSome};
+ghost use Rattle.std.specs.Prelude.{◌≡◌, is_some, IsSome};
 ghost use Rattle.std.specs.List.{list_any};
-ghost use Rattle.lis_dict.specs.Dict.{word_of};
+ghost use Rattle.lis_dict.specs.Dict.{IsDict, word_of};
 ghost use Rattle.lis_kept.specs.Sound.{AreSound};
 ghost use Rattle.lis_kept.specs.TestEdges.{test_by};
 ghost use Rattle.lis_kept.specs.Undeclaring.{is_right_of, is_named_by, is_needed, MayUndeclare, Undeclares};
@@ -26,6 +26,7 @@ fn is_right_of(slot: AxiomSlot, number: u32) -> bool
 
 // Whether an axiom names a number's word, or has it as the head of its left side.
 fn is_named_by(dict: &Dict, slot: AxiomSlot, number: u32) -> bool
+    requires { IsDict dict.now }
     ensures { result ≡ is_named_by dict.now number slot }
 {
     is_on_left(dict, slot, number) || is_right_of(slot, number)
@@ -33,6 +34,7 @@ fn is_named_by(dict: &Dict, slot: AxiomSlot, number: u32) -> bool
 
 // Whether some axiom does so.
 fn is_named(dict: &Dict, axioms: &[AxiomSlot], number: u32) -> bool
+    requires { IsDict dict.now }
     ensures { result ≡ list_any (is_named_by dict.now number) axioms.now }
 {
     axioms.iter().any(|slot| is_named_by(dict, *slot, number))

@@ -1,4 +1,4 @@
-use Rattle.std.proofs.Common.{◌≡◌, ◌-◌, ◌*◌, ◌∙◌, [], ap, sym, length, take, unwrap_or, arith}
+use Rattle.std.proofs.Common.{◌≡◌, ◌*◌, ◌∙◌, [], ap, sym, length, take, unwrap_or, arith}
 use Rattle.std.proofs.lemmas.Result.{on_ok_weaker}
 use Rattle.lis_ports.specs.Bytes.{part}
 use Rattle.lis_content.specs.Inside.{kept_bytes}

@@ -2,7 +2,6 @@ use Rattle.std.proofs.Common.{◌≡◌, false, true, length, sym, ◌∙◌, su
 use Rattle.std.specs.List.{flat_map}
 use Rattle.byteorder.specs.Endian.{little_bytes}
 use Rattle.lis_content.specs.Large.{is_large}
-use Rattle.lis_model.specs.Sets.{are_short}
 use Rattle.lis_content.specs.Placing.{OnePlaced}
 use Rattle.lis_content.proofs.Laying.{unstaged_still, lays_torn, placed_small, placed_large, failed_as}
 use Rattle.lis_content.proofs.placing.place_all.Goals as goal
@@ -27,6 +26,5 @@ returns-clause-ended g c =
     let numbers = c.in_ok-numbers.numbers.items in
     let same : c.deref-2.result.now ≡ numbers = c.deref-2.ensures.0 in
     let large : is_large (length c.args.bytes.now) ≡ true = sym c.is_large.ensures ∙ c.if-not-is_large.false in
-    let short : are_short numbers ≡ true = subst (λ ns. are_short ns ≡ true) same c.in_ok-index.ensures.short in
     let one = subst (λ ns. OnePlaced c.args.base (flat_map (little_bytes 2) ns) c.place_bytes.new.map c.place_index.new.map c.place_bytes.new.journal c.place_index.new.journal (g.D.Disk.meaning c.place_bytes.new.disk) (g.D.Disk.meaning c.place_index.new.disk) c.in_ok-index.index) same c.in_ok-index.ensures.ended in
-    rw c.slot_of-2.ensures (placed_large c.args.base c.args.bytes.now c.args.map.now c.place_bytes.new.map c.place_index.new.map c.args.journal.now c.place_bytes.new.journal c.place_index.new.journal numbers c.in_ok-index.index large short c.in_ok-numbers.ensures.ended one)
+    rw c.slot_of-2.ensures (placed_large c.args.base c.args.bytes.now c.args.map.now c.place_bytes.new.map c.place_index.new.map c.args.journal.now c.place_bytes.new.journal c.place_index.new.journal numbers c.in_ok-index.index large c.in_ok-numbers.ensures.short c.in_ok-numbers.ensures.ended one)

@@ -1,4 +1,4 @@
-use Rattle.std.proofs.Common.{◌+◌, ◌-◌, ◌≤◌, ◌<◌}
+use Rattle.std.proofs.Common.{◌-◌, ◌≤◌, ◌<◌}
 use Rattle.lis_content.specs.Placing.{TakesRow}
 use Rattle.lis_content.proofs.placing.take_row.Given as goal
 
@@ -6,9 +6,8 @@ abbrev pub invariant-loop-count : goal.invariant-loop-count
 invariant-loop-count l = record {
   row : TakesRow l.fn.map l.map l.first l.count;
   any : 0 < l.count;
-  most : l.count ≤ l.most;
-  narrow : l.first + l.count ≤ 65536;
+  most : l.count ≤ l.limit;
 }
 
 abbrev pub decreases-loop-count : goal.decreases-loop-count
-decreases-loop-count l = l.most - l.count
+decreases-loop-count l = l.limit - l.count

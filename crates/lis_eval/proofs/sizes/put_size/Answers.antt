@@ -1,4 +1,4 @@
-use Rattle.std.proofs.Common.{◌≡◌, ◌==◌, true, false, nat_le, if◌then◌else◌, arith}
+use Rattle.std.proofs.Common.{refl, ◌≡◌, ◌==◌, true, false, nat_le, if◌then◌else◌, arith}
 use Rattle.std.proofs.lemmas.Bool.{le-leb, lt-leb}
 use Rattle.lis_bits.specs.Rows.{get}
 use Rattle.lis_bits.proofs.Laws.{bits_set}

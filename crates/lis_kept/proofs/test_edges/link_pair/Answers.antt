@@ -1,5 +1,5 @@
 use Rattle.lis_kept.proofs.Common.{◌≡◌, true}
-use Rattle.lis_kept.specs.TestEdges.{is_test_link, LinksPair}
+use Rattle.lis_kept.specs.TestEdges.{is_test_link}
 use Rattle.lis_kept.proofs.TestChains.{one_more, pair_linked, linked_ordered}
 use Rattle.lis_kept.proofs.test_edges.link_pair.Goals as goal
 

@@ -14,14 +14,14 @@ unreachable-requires c =
     let lt : c.loop-place.place < length entries = omega (arith, c.loop-place-test.true, c.tests-start.ensures.within) in
     omega (arith, lt, past_end entries c.loop-place.place (sym c.word_at.ensures ∙ c.in_default.is))
 
-pub test_past-requires-clause-long : goal.test_past-requires-clause-long
-test_past-requires-clause-long c =
+pub test_past-requires : goal.test_past-requires
+test_past-requires c =
     let dict = c.args.dict.now in
     let number = c.in-Some.number in
     let here : slice_get dict.entries c.loop-place.place ≡ Some (c.in-Some.field-0-0, number) = sym c.word_at.ensures ∙ c.in-Some.is in
     let named = word_here c.args.side dict c.args.declared.now c.args.test c.tests-start.ensures.kept c.loop-place.place (c.in-Some.field-0-0, number) here in
     let below = number_below dict c.tests-start.ensures.kept c.in-Some.field-0-0 number (number_from_word dict c.tests-start.ensures.kept c.in-Some.field-0-0 number named) in
-    omega (arith, below, c.requires.bits, c.from-number.ensures)
+    omega (arith, below, c.requires.bits)
 
 pub loop-place-preserved : goal.loop-place-preserved
 loop-place-preserved c =
@@ -32,15 +32,14 @@ loop-place-preserved c =
     let before = c.loop-place.invariant in
     let e : List ℕ × ℕ = (c.in-Some.field-0-0, c.in-Some.number) in
     let here : slice_get d.entries place ≡ Some e = sym c.word_at.ensures ∙ c.in-Some.is in
-    let is = sym c.from-number.ensures in
     elim c.match-test_past.branch [
       | in-Some-test_past+then-is_nearer w ↦
-          rw w.nearest-is (nearer_by side d bits c.args.test place c.from-number.result e here is w.in-Some-test_past.found w.in-Some-test_past.ensures.there w.in-Some-test_past.ensures.past
+          rw w.nearest-is (nearer_by side d bits c.args.test place e here w.in-Some-test_past.found w.in-Some-test_past.ensures.there w.in-Some-test_past.ensures.past
           c.loop-place.nearest w.is_nearer.result w.is_nearer.ensures w.if-is_nearer.true before)
       | in-Some-test_past+else-is_nearer w ↦
-          rw w.nearest-is (not_nearer_by side d bits c.args.test place c.from-number.result e here is w.in-Some-test_past.found w.in-Some-test_past.ensures.there w.in-Some-test_past.ensures.past
+          rw w.nearest-is (not_nearer_by side d bits c.args.test place e here w.in-Some-test_past.found w.in-Some-test_past.ensures.there w.in-Some-test_past.ensures.past
           c.loop-place.nearest w.is_nearer.result w.is_nearer.ensures w.if-is_nearer.false before)
-      | in_default-test_past w ↦ rw w.nearest-is (not_past side d bits c.args.test place c.from-number.result e here is c.loop-place.nearest before (rw w.in_default-test_past.is at c.test_past.ensures.past))
+      | in_default-test_past w ↦ rw w.nearest-is (not_past side d bits c.args.test place e here c.loop-place.nearest before (rw w.in_default-test_past.is at c.test_past.ensures.past))
     ]
 
 at_end : (c : goal.After-number_of) → NearestAmong c.args.side c.args.dict.now c.args.declared.now c.args.test c.tests-start.result.1 c.loop-place.nearest

@@ -6,11 +6,10 @@ use Rattle.lis_kept.specs.Metadata.{Metadata}
 use Rattle.lis_kept.specs.Behind.{rights_of, is_behind}
 use Rattle.lis_kept.specs.Telling.{pairs_told, axioms_of}
 use Rattle.lis_kept.proofs.FirstRight.{no_rights}
-use Rattle.lis_kept.proofs.Formed.{short_dict}
 use Rattle.lis_kept.proofs.metadata.Metadata.axiom_behind.Goals as goal
 
 pub first_right-requires : goal.first_right-requires
-first_right-requires c = short_dict _ c.self.invariant.sound
+first_right-requires c = c.self.invariant.sound.dict
 
 pub returns-in_err-left : goal.returns-in_err-left
 returns-in_err-left c = grind (arith, no_rights _ c.self.invariant.sound c.args.left.now (sym c.id_of.ensures ∙ c.in_err-left.was))

@@ -1,3 +1,4 @@
+use Rattle.std.proofs.Common.{arith}
 use Rattle.lis_kept.proofs.Common.{rules, ◌≡◌, ◌∙◌, if◌then◌else◌, true, Some, set, refl, ap, subst, number_of, same_word_decides}
 use Rattle.lis_kept.specs.Metadata.{Metadata}
 use Rattle.lis_kept.specs.Links.{AreHeld}
@@ -15,10 +16,10 @@ come : (c : After-put) → Comes (the_view c.self.inside) c.args.word.now c.in-O
 come c = search (rules, added)
 
 bits : (c : After-put) → c.put.new.self ≡ set c.self.inside.declared c.in-Ok.number true
-bits c = c.put.ensures ∙ ap (λ n. set c.self.inside.declared n true) c.from-at.ensures
+bits c = c.put.ensures
 
 pub insert_test-requires-clause-few : goal.insert_test-requires-clause-few
-insert_test-requires-clause-few c = few_properties c.self.inside.limits c.self.invariant.sound.range
+insert_test-requires-clause-few c = omega (arith, few_properties c.self.inside.limits c.self.invariant.sound.range, c.self.invariant.links.props)
 
 pub insert_test-requires-clause-ordered : goal.insert_test-requires-clause-ordered
 insert_test-requires-clause-ordered c =
@@ -35,7 +36,7 @@ made : (c : goal.After-mark_property) → AreHeld (now c) c.insert_test.new.taxo
 made c =
     let there = (goal.at.returns c).After-put in
     declares (the_view c.self.inside) c.self.inside.taxonomy c.self.invariant c.requires.form (come there) (bits there)
-    c.insert_test.new.taxonomy (rw c.from-at.ensures at c.insert_test.ensures)
+    c.insert_test.new.taxonomy c.insert_test.ensures
     c.mark_property.new.marks c.mark_property.ensures c.args.self.now c.self.view_is
 
 pub invariant_of-self : goal.invariant_of-self

@@ -1,5 +1,5 @@
 use Rattle.std.proofs.Common.{arith}
-use Rattle.lis_kept.proofs.Common.{◌∙◌, map, set, sym, ap, Ext, marked}
+use Rattle.lis_kept.proofs.Common.{◌∙◌, map, sym, ap, Ext, marked}
 use Rattle.lis_ext.specs.Ext.{set_of}
 use Rattle.lis_ext.specs.Numbers.{differs}
 use Rattle.lis_kept.specs.Metadata.{Metadata}
@@ -14,27 +14,27 @@ set_file-requires-clause-new_in c = numbers_below c.args.self.now (the_view c.se
 
 pub mark_rows-requires-clause-few : goal.mark_rows-requires-clause-few
 mark_rows-requires-clause-few c =
-    let few = few_where c.self.inside.ext.props (differs (set_of c.self.inside.ext c.from.result) c.args.new.now) c.set_file.new.self.marks (c.set_file.ensures.marks ∙ marks_differ c.self.inside.ext (set_of c.self.inside.ext c.from.result) c.args.new.now c.self.invariant.sound.settled) in
+    let few = few_where c.self.inside.ext.props (differs (set_of c.self.inside.ext c.args.slot) c.args.new.now) c.set_file.new.self.marks (c.set_file.ensures.marks ∙ marks_differ c.self.inside.ext (set_of c.self.inside.ext c.args.slot) c.args.new.now c.self.invariant.sound.settled) in
     omega (arith, few, c.self.invariant.sound.rows)
 
 pub mark_rows-requires-clause-below : goal.mark_rows-requires-clause-below
 mark_rows-requires-clause-below c =
-    where_below c.self.inside.ext.props c.self.inside.limits.props (differs (set_of c.self.inside.ext c.from.result) c.args.new.now) c.set_file.new.self.marks
-    (c.set_file.ensures.marks ∙ marks_differ c.self.inside.ext (set_of c.self.inside.ext c.from.result) c.args.new.now c.self.invariant.sound.settled) c.self.invariant.sound.rows
+    where_below c.self.inside.ext.props c.self.inside.limits.props (differs (set_of c.self.inside.ext c.args.slot) c.args.new.now) c.set_file.new.self.marks
+    (c.set_file.ensures.marks ∙ marks_differ c.self.inside.ext (set_of c.self.inside.ext c.args.slot) c.args.new.now c.self.invariant.sound.settled) c.self.invariant.sound.rows
 
 pub invariant_of-self : goal.invariant_of-self
 invariant_of-self c =
-    (describes c.args.self.now (the_view c.self.inside) c.self.inside.taxonomy c.args.slot (set_of c.self.inside.ext c.from.result) c.args.new.now c.settle.new.self c.mark_rows.new.marks
-    c.self.view_is c.self.invariant c.set_file.ensures.in_range c.requires.slot (ap (λ (k : Metadata). set_of k.ext c.args.slot) (sym c.self.view_is) ∙ ap (set_of c.self.inside.ext) (sym c.from.ensures)) c.requires.named
-    (ap (λ (e : Ext). e.props) c.settle.ensures ∙ c.set_file.ensures.props) (ap (λ (e : Ext). e.sets) c.settle.ensures ∙ (c.set_file.ensures.sets ∙ ap (λ s. set c.self.inside.ext.sets s c.args.new.now) c.from.ensures)) (ap (λ (e : Ext). e.marks) c.settle.ensures)
+    (describes c.args.self.now (the_view c.self.inside) c.self.inside.taxonomy c.args.slot (set_of c.self.inside.ext c.args.slot) c.args.new.now c.settle.new.self c.mark_rows.new.marks
+    c.self.view_is c.self.invariant c.set_file.ensures.in_range c.requires.slot (ap (λ (k : Metadata). set_of k.ext c.args.slot) (sym c.self.view_is)) c.requires.named
+    (ap (λ (e : Ext). e.props) c.settle.ensures ∙ c.set_file.ensures.props) (ap (λ (e : Ext). e.sets) c.settle.ensures ∙ c.set_file.ensures.sets) (ap (λ (e : Ext). e.marks) c.settle.ensures)
     (omega (arith, ap (λ (e : Ext). e.edits) c.settle.ensures, c.set_file.ensures.edits)) (omega (arith, ap (λ (e : Ext). e.edits) c.settle.ensures, c.set_file.ensures.no_fewer))
-    (c.mark_rows.ensures ∙ ap (λ ns. marked c.self.inside.marks (map (block_of c.self.inside.limits Rows) ns)) (c.set_file.ensures.marks ∙ marks_differ c.self.inside.ext (set_of c.self.inside.ext c.from.result) c.args.new.now c.self.invariant.sound.settled))).0
+    (c.mark_rows.ensures ∙ ap (λ ns. marked c.self.inside.marks (map (block_of c.self.inside.limits Rows) ns)) (c.set_file.ensures.marks ∙ marks_differ c.self.inside.ext (set_of c.self.inside.ext c.args.slot) c.args.new.now c.self.invariant.sound.settled))).0
 
 pub returns : goal.returns
 returns c =
-    let both = describes c.args.self.now (the_view c.self.inside) c.self.inside.taxonomy c.args.slot (set_of c.self.inside.ext c.from.result) c.args.new.now c.settle.new.self c.mark_rows.new.marks
-    c.self.view_is c.self.invariant c.set_file.ensures.in_range c.requires.slot (ap (λ (k : Metadata). set_of k.ext c.args.slot) (sym c.self.view_is) ∙ ap (set_of c.self.inside.ext) (sym c.from.ensures)) c.requires.named
-    (ap (λ (e : Ext). e.props) c.settle.ensures ∙ c.set_file.ensures.props) (ap (λ (e : Ext). e.sets) c.settle.ensures ∙ (c.set_file.ensures.sets ∙ ap (λ s. set c.self.inside.ext.sets s c.args.new.now) c.from.ensures)) (ap (λ (e : Ext). e.marks) c.settle.ensures)
+    let both = describes c.args.self.now (the_view c.self.inside) c.self.inside.taxonomy c.args.slot (set_of c.self.inside.ext c.args.slot) c.args.new.now c.settle.new.self c.mark_rows.new.marks
+    c.self.view_is c.self.invariant c.set_file.ensures.in_range c.requires.slot (ap (λ (k : Metadata). set_of k.ext c.args.slot) (sym c.self.view_is)) c.requires.named
+    (ap (λ (e : Ext). e.props) c.settle.ensures ∙ c.set_file.ensures.props) (ap (λ (e : Ext). e.sets) c.settle.ensures ∙ c.set_file.ensures.sets) (ap (λ (e : Ext). e.marks) c.settle.ensures)
     (omega (arith, ap (λ (e : Ext). e.edits) c.settle.ensures, c.set_file.ensures.edits)) (omega (arith, ap (λ (e : Ext). e.edits) c.settle.ensures, c.set_file.ensures.no_fewer))
-    (c.mark_rows.ensures ∙ ap (λ ns. marked c.self.inside.marks (map (block_of c.self.inside.limits Rows) ns)) (c.set_file.ensures.marks ∙ marks_differ c.self.inside.ext (set_of c.self.inside.ext c.from.result) c.args.new.now c.self.invariant.sound.settled)) in
+    (c.mark_rows.ensures ∙ ap (λ ns. marked c.self.inside.marks (map (block_of c.self.inside.limits Rows) ns)) (c.set_file.ensures.marks ∙ marks_differ c.self.inside.ext (set_of c.self.inside.ext c.args.slot) c.args.new.now c.self.invariant.sound.settled)) in
     record { describes = both.1; sound = both.0.sound }

@@ -6,4 +6,4 @@ pub get-requires : goal.get-requires
 get-requires c =
     let sound = c.self.invariant.sound in
     let below = number_below c.self.inside.dict sound.dict c.args.word.now c.in-Some.number (sym c.in-Some.ensures) in
-    omega (arith, below, c.from.ensures, sound.numbers, sound.bits)
+    omega (arith, below, sound.numbers, sound.bits)

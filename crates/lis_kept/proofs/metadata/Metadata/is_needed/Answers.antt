@@ -1,10 +1,10 @@
 use Rattle.std.proofs.Common.{arith}
-use Rattle.lis_kept.proofs.Common.{◌≡◌, ◌∙◌, ℕ, ◌&&◌, ◌||◌, not, Bool, false, is_some, sym, ap, ap₂, list_any, word_of}
+use Rattle.lis_kept.proofs.Common.{◌≡◌, ◌∙◌, ◌&&◌, ◌||◌, not, Bool, false, is_some, sym, ap, ap₂, list_any, word_of}
 use Rattle.lis_kept.specs.Metadata.{Metadata}
 use Rattle.lis_kept.specs.TestEdges.{test_by}
 use Rattle.lis_kept.specs.Telling.{is_had}
 use Rattle.lis_kept.specs.Undeclaring.{is_named_by, is_needed}
-use Rattle.lis_kept.proofs.Formed.{named_in, short_dict}
+use Rattle.lis_kept.proofs.Formed.{named_in}
 use Rattle.lis_kept.specs.contracts.metadata.Metadata.{the_view}
 use Rattle.lis_kept.proofs.metadata.Metadata.is_needed.Goals.{else-not-is_test-via-then-not-is_test+else-is_had, else-not-is_test-via-else-not-is_test}
 use Rattle.lis_kept.proofs.metadata.Metadata.is_needed.Goals as goal
@@ -13,7 +13,7 @@ pub is_had-requires : goal.is_had-requires
 is_had-requires c = omega (arith, named_in c.args.self.now (the_view c.self.inside) c.self.view_is c.self.invariant.sound c.args.number c.requires, c.self.invariant.sound.rows)
 
 pub is_named-requires : goal.is_named-requires
-is_named-requires c = short_dict (the_view c.self.inside) c.self.invariant.sound
+is_named-requires c = c.self.invariant.sound.dict
 
 pub returns-then-is_had : goal.returns-then-is_had
 returns-then-is_had c =

@@ -1,5 +1,5 @@
 use Rattle.std.proofs.Common.{arith}
-use Rattle.lis_kept.proofs.Common.{◌≡◌, Some, ◌∙◌, ◌<◌, ℕ, refl, sym, ap, ap₂, subst, set, is_some, with_edge, FreeAxiom, Pair}
+use Rattle.lis_kept.proofs.Common.{◌≡◌, Some, ◌∙◌, ◌<◌, refl, sym, ap, subst, set, is_some, FreeAxiom, Pair}
 use Rattle.std.specs.List.{position}
 use Rattle.lis_kept.specs.Linking.{is_free, MayLink, Links}
 use Rattle.lis_kept.specs.Metadata.{Metadata}
@@ -34,35 +34,34 @@ index_mut-requires c =
 pub add-requires-clause-p : goal.add-requires-clause-p
 add-requires-clause-p c =
     let side = ap is_some (may (goal.at.add-requires-clause-p c).In-Some).is_left in
-    omega (arith, named_below (the_view c.self.inside) c.self.invariant.sound c.args.left side, c.from-left.ensures, c.self.invariant.links.props)
+    omega (arith, named_below (the_view c.self.inside) c.self.invariant.sound c.args.left side, c.self.invariant.links.props)
 
 pub add-requires-clause-q : goal.add-requires-clause-q
 add-requires-clause-q c =
     let side = ap is_some (may (goal.at.add-requires-clause-q c).In-Some).is_right in
-    omega (arith, named_below (the_view c.self.inside) c.self.invariant.sound c.args.right side, c.from-right.ensures, c.self.invariant.links.props)
+    omega (arith, named_below (the_view c.self.inside) c.self.invariant.sound c.args.right side, c.self.invariant.links.props)
 
 pub add-requires-clause-room : goal.add-requires-clause-room
 add-requires-clause-room c = omega (arith, has_room (the_view c.self.inside) c.self.invariant.sound c.self.inside.taxonomy c.self.invariant.links)
 
 pub unreachable-requires-in_default-add : goal.unreachable-requires-in_default-add
 unreachable-requires-in_default-add c =
-    link_refused (the_view c.self.inside) c.self.inside.taxonomy c.self.invariant c.args.left c.args.right (may (goal.at.unreachable-requires-in_default-add c).In-Some) c.from-left.result c.from-right.result _ c.add.result
-    c.in_default-add.is c.add.ensures.present c.add.ensures.cycle c.add.ensures.not_absent c.from-left.ensures c.from-right.ensures
+    link_refused (the_view c.self.inside) c.self.inside.taxonomy c.self.invariant c.args.left c.args.right (may (goal.at.unreachable-requires-in_default-add c).In-Some) _ c.add.result
+    c.in_default-add.is c.add.ensures.present c.add.ensures.cycle c.add.ensures.not_absent
 
 pub mark_axiom-requires-clause-slot : goal.mark_axiom-requires-clause-slot
 mark_axiom-requires-clause-slot c = below (goal.at.mark_axiom-requires-clause-slot c).In-Some
 
 abbrev now : goal.After-mark_axiom → Metadata
-now c = record (the_view c.self.inside) { axioms = set (the_view c.self.inside).axioms c.in-Some.slot (Pair c.from-left.result c.from-right.result); marks = c.mark_axiom.new.marks }
+now c = record (the_view c.self.inside) { axioms = set (the_view c.self.inside).axioms c.in-Some.slot (Pair c.args.left c.args.right); marks = c.mark_axiom.new.marks }
 
 made : (c : goal.After-mark_axiom) → AreHeld (now c) c.add.new.self × Links c.args.left c.args.right c.args.self.now (now c)
 made c =
     let at = (goal.at.returns c).In-Some in
     let v = the_view c.self.inside in
-    links c.args.self.now v c.self.inside.taxonomy c.add.new.self c.args.left c.args.right c.in-Some.slot (set v.axioms c.in-Some.slot (Pair c.from-left.result c.from-right.result)) c.mark_axiom.new.marks
+    links c.args.self.now v c.self.inside.taxonomy c.add.new.self c.args.left c.args.right c.in-Some.slot (set v.axioms c.in-Some.slot (Pair c.args.left c.args.right)) c.mark_axiom.new.marks
     c.self.view_is c.self.invariant (may at) (below at) (free_place v.axioms c.in-Some.slot (place at))
-    (ap₂ (λ (x y : ℕ). set v.axioms c.in-Some.slot (Pair x y)) c.from-left.ensures c.from-right.ensures)
-    (c.in-Ok.ensures.ok ∙ ap₂ (λ (x y : ℕ). with_edge c.self.inside.taxonomy x y) c.from-left.ensures c.from-right.ensures) c.mark_axiom.ensures
+    refl c.in-Ok.ensures.ok c.mark_axiom.ensures
 
 pub invariant_of-self : goal.invariant_of-self
 invariant_of-self c = (made c).0

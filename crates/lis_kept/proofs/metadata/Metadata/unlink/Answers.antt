@@ -1,5 +1,5 @@
 use Rattle.std.proofs.Common.{arith}
-use Rattle.lis_kept.proofs.Common.{◌≡◌, Some, slice_get, ◌∙◌, ℕ, refl, sym, ap₂, subst, set, without_edge, FreeAxiom, Pair}
+use Rattle.lis_kept.proofs.Common.{◌≡◌, Some, slice_get, ◌∙◌, refl, sym, subst, set, FreeAxiom, Pair}
 use Rattle.lis_kept.specs.Linking.{MayUnlink, Unlinks}
 use Rattle.lis_kept.specs.Metadata.{Metadata}
 use Rattle.lis_kept.specs.Links.{AreHeld}
@@ -15,14 +15,14 @@ pub unreachable-requires : goal.unreachable-requires
 unreachable-requires c =
     let v = the_view c.self.inside in
     let may = subst (MayUnlink c.args.left c.args.right) (sym c.self.view_is) c.requires in
-    pair_found v.axioms _ c.args.left c.args.right c.from-left.result c.from-right.result c.as_slice.ensures.value c.from-left.ensures c.from-right.ensures may.there (sym c.slot_of_pair.ensures ∙ c.in_default.is)
+    pair_found v.axioms _ c.args.left c.args.right c.as_slice.ensures.value may.there (sym c.slot_of_pair.ensures ∙ c.in_default.is)
 
 may : (c : In-Some) → MayUnlink c.args.left c.args.right (the_view c.self.inside)
 may c = subst (MayUnlink c.args.left c.args.right) (sym c.self.view_is) c.requires
 
 at : (c : In-Some) → slice_get (the_view c.self.inside).axioms c.in-Some.slot ≡ Some (Pair c.args.left c.args.right)
 at c =
-    pair_placed (the_view c.self.inside).axioms _ c.args.left c.args.right c.from-left.result c.from-right.result c.in-Some.slot c.as_slice.ensures.value c.from-left.ensures c.from-right.ensures
+    pair_placed (the_view c.self.inside).axioms _ c.args.left c.args.right c.in-Some.slot c.as_slice.ensures.value
     (sym c.slot_of_pair.ensures ∙ c.in-Some.is)
 
 sides : (c : In-Some) → IsSoundAxiom (the_view c.self.inside) c.in-Some.slot c.args.left c.args.right
@@ -30,16 +30,16 @@ sides c = c.self.invariant.sound.axioms c.in-Some.slot c.args.left c.args.right 
 
 pub remove-requires-clause-p : goal.remove-requires-clause-p
 remove-requires-clause-p c =
-    omega (arith, named_below (the_view c.self.inside) c.self.invariant.sound c.args.left (sides (goal.at.remove-requires-clause-p c).In-Some).left, c.from-left.ensures, c.self.invariant.links.props)
+    omega (arith, named_below (the_view c.self.inside) c.self.invariant.sound c.args.left (sides (goal.at.remove-requires-clause-p c).In-Some).left, c.self.invariant.links.props)
 
 pub remove-requires-clause-q : goal.remove-requires-clause-q
 remove-requires-clause-q c =
-    omega (arith, named_below (the_view c.self.inside) c.self.invariant.sound c.args.right (sides (goal.at.remove-requires-clause-q c).In-Some).right, c.from-right.ensures, c.self.invariant.links.props)
+    omega (arith, named_below (the_view c.self.inside) c.self.invariant.sound c.args.right (sides (goal.at.remove-requires-clause-q c).In-Some).right, c.self.invariant.links.props)
 
 pub unreachable-requires-in_default-remove : goal.unreachable-requires-in_default-remove
 unreachable-requires-in_default-remove c =
-    unlink_missed (the_view c.self.inside) c.self.inside.taxonomy c.self.invariant c.args.left c.args.right (may (goal.at.unreachable-requires-in_default-remove c).In-Some) c.from-left.result c.from-right.result _ c.remove.result
-    c.in_default-remove.is c.remove.ensures.absent (c.in_default-remove.is ∙ c.in_default-remove.ensures.only) c.from-left.ensures c.from-right.ensures
+    unlink_missed (the_view c.self.inside) c.self.inside.taxonomy c.self.invariant c.args.left c.args.right (may (goal.at.unreachable-requires-in_default-remove c).In-Some) c.remove.result
+    c.remove.ensures.absent (c.in_default-remove.is ∙ c.in_default-remove.ensures.only)
 
 pub mark_axiom-requires-clause-slot : goal.mark_axiom-requires-clause-slot
 mark_axiom-requires-clause-slot c = (sides (goal.at.mark_axiom-requires-clause-slot c).In-Some).below
@@ -53,7 +53,7 @@ made c =
     let v = the_view c.self.inside in
     unlinks c.args.self.now v c.self.inside.taxonomy c.remove.new.self c.args.left c.args.right c.in-Some.slot (set v.axioms c.in-Some.slot FreeAxiom) c.mark_axiom.new.marks
     c.self.view_is c.self.invariant (may there) (at there) refl
-    (c.in-Ok.ensures.ok ∙ ap₂ (λ (x y : ℕ). without_edge c.self.inside.taxonomy x y) c.from-left.ensures c.from-right.ensures) c.mark_axiom.ensures
+    c.in-Ok.ensures.ok c.mark_axiom.ensures
 
 pub invariant_of-self : goal.invariant_of-self
 invariant_of-self c = (made c).0

@@ -1,5 +1,5 @@
 use Rattle.std.proofs.Common.{arith}
-use Rattle.lis_kept.proofs.Common.{◌∙◌, ℕ, [], ap, ap₂, sym, get_or_past, has}
+use Rattle.lis_kept.proofs.Common.{[], ap, sym, get_or_past}
 use Rattle.lis_ext.specs.Numbers.{has_number}
 use Rattle.lis_kept.proofs.words.without.has_at.Goals as goal
 
@@ -7,6 +7,3 @@ pub returns-then-slot-files : goal.returns-then-slot-files
 returns-then-slot-files c =
     let e = c.args.ext.now in
     sym (ap (λ ns. has_number ns c.args.number) (get_or_past e.sets c.args.slot [] (omega arith)))
-
-pub returns : goal.returns
-returns c = c.has.ensures ∙ ap₂ (λ (a b : ℕ). has c.args.ext.now a b) c.from.ensures c.from-slot.ensures
