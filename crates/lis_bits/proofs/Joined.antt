@@ -39,7 +39,7 @@ module _ (old new : List ℕ) (rows width to : ℕ) (op : ℕ → ℕ → ℕ �
       ∙ ap (λ row. set (rows_of old rows width) to row) (row_same (64 * width) joined_value (λ bit. join (get_or (get_or (rows_of old rows width) to []) bit false) (shown bit))
       (λ b lt. rw (get-rows_of old rows width to b to_in lt, same b lt)))
 
--- what a contract sees after a row's words were written in the lent frame
+-- the value in contracts after a row's words were written in the lent frame
 pub seen_written : (r : Region ℕ) (frame rows width row edits edits' : ℕ) (value : ℕ → Bool) (old new : List ℕ) → get r frame ≡ Some old → length old ≡ r.width → length new ≡ length old
     → rows_of new rows width ≡ set (rows_of old rows width) row (row_of (64 * width) value) → edits < 2 ^ 64 → edits' ≡ min (edits + 1) (2 ^ 64 - 1)
     → seen (with_frame r frame (Some (refill r.width (words_of r frame) new))) frame rows width edits' ≡ with_row (seen r frame rows width edits) row value
@@ -50,7 +50,7 @@ seen_written r frame rows width row edits edits' value old new some long same wr
     let after = ap (λ words. rows_of words rows width) lent ∙ (written ∙ ap (λ words. set (rows_of words rows width) row (row_of (64 * width) value)) (sym was)) in
     ap (λ rows. record { bits = 64 * width; rows = rows; edits = edits' }) after ∙ ap (λ n. record { bits = 64 * width; rows = set (rows_of (words_of r frame) rows width) row (row_of (64 * width) value); edits = n }) one
 
--- what a contract sees of new rows
+-- the value of new rows in contracts
 pub seen_new : (made r : Region ℕ) (frame rows bits : ℕ) → made ≡ empty_region 1 (rows * (bits / 64)) 0 → r ≡ with_frame made frame (Some (replicate made.width made.fill)) → frame < length made.frames → bits % 64 ≡ 0
     → seen r frame rows (bits / 64) 0 ≡ empty_rows rows bits
 seen_new made r frame rows bits begins taken in_range whole =

@@ -66,7 +66,7 @@ byte_is words k = number_is 8 (bit_and (get_or words (k / 8) 0 / 2 ^ (k % 8 * 8)
         let shift = ap (λ x. nat_eq x 1) (shifted (get_or words (k / 8) 0) (k % 8 * 8) i) in
         and_bit (get_or words (k / 8) 0 / 2 ^ (k % 8 * 8)) 255 i ∙ (ap (λ b. word_bit (get_or words (k / 8) 0 / 2 ^ (k % 8 * 8)) i && b) one ∙ (kept (word_bit (get_or words (k / 8) 0 / 2 ^ (k % 8 * 8)) i) ∙ (shift ∙ rw (place, rest))))
 
--- bytes that each tell eight truth values
+-- bytes of eight truth values each
 pub bytes_are : (bytes : List ℕ) (count : ℕ) (bit : ℕ → Bool) → length bytes ≡ count → ((k : ℕ) → k < count → get_or bytes k 0 ≡ bits_number 8 (λ i. bit (8 * k + i))) → bytes ≡ bits_bytes count bit
 unfolding bits_bytes
 bytes_are bytes count bit long each = fill_by_all (λ k. bits_number 8 (λ i. bit (8 * k + i))) bytes count 0 long each

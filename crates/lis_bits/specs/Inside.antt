@@ -1,4 +1,4 @@
--- How the words of a frame make the rows that a contract sees. No public clause cites this module.
+-- How the words of a frame make the rows of contracts. No public clause cites this module.
 use Rattle.std.specs.Prelude.{◌≡◌, ℕ, ◌+◌, ◌*◌, ◌/◌, ◌%◌, ◌^◌, ◌<◌, ◌≤◌, Bool, List, [], length, map, unwrap_or, slice_index}
 use Rattle.std.specs.List.{range_with_len}
 use Rattle.lis_region.specs.Region as region
@@ -9,7 +9,7 @@ use Rattle.lis_bits.specs.Words.{word_bit}
 abbrev pub bit_from : List ℕ → ℕ → ℕ → Bool
 bit_from words at bit = word_bit (slice_index words (at + bit / 64)) (bit % 64)
 
--- so many rows of so many words each
+-- rows of equal width, by the words of the frame
 unfoldable pub rows_of : List ℕ → ℕ → ℕ → List (List Bool)
 rows_of words rows width = map (λ row. row_of (64 * width) (bit_from words (row * width))) (range_with_len 0 rows)
 
@@ -17,11 +17,11 @@ rows_of words rows width = map (λ row. row_of (64 * width) (bit_from words (row
 abbrev pub words_of : region.Region ℕ → ℕ → List ℕ
 words_of r frame = unwrap_or (region.get r frame) []
 
--- what a contract sees of the fields
+-- the value of the fields in contracts
 abbrev pub seen : region.Region ℕ → ℕ → ℕ → ℕ → ℕ → Rows
 seen r frame rows width edits = record { bits = 64 * width; rows = rows_of (words_of r frame) rows width; edits = edits }
 
--- the frame has the words of so many rows
+-- the frame has the words of all rows
 pub record AreSoundRows (r : region.Region ℕ) (frame rows width : ℕ) : Type 0 where
   pub there : region.HasFrame r frame
   pub wide : r.width ≡ rows * width
@@ -32,7 +32,7 @@ abbrev pub IsBitwise : (Bool → Bool → Bool) → (ℕ → ℕ → ℕ → Typ
 IsBitwise join op = (a b word : ℕ) → a < 2 ^ 64 → b < 2 ^ 64 → op a b word → (bit : ℕ) → bit < 64
     → word_bit word bit ≡ join (word_bit a bit) (word_bit b bit)
 
--- one row of so many bits
+-- one row of that width
 pub record IsOneRow (r : Rows) (bits : ℕ) : Type 0 where
   pub shape : HasShape r 1 bits
   pub long : length (row_at r 0) ≡ bits

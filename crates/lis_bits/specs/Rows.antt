@@ -1,9 +1,9 @@
--- What a contract sees of `Rows`.
+-- The value of `Rows` in contracts.
 use Rattle.std.specs.Prelude.{◌≡◌, ◌≢◌, ℕ, ◌+◌, ◌-◌, ◌^◌, ◌<◌, ◌≤◌, min, Bool, false, List, [], length, map, slice_index_or, slice_set, replicate}
 use Rattle.std.specs.List.{range_with_len}
 
--- how many bits a row has, the truth values of each row by their bits, and how often a row was changed, up to the
--- last value of the counter
+-- the width of a row in bits, the truth values of each row, and how often a row was changed, up to the last value of the
+-- counter
 pub record Rows : Type 0 where
   pub bits : ℕ
   pub rows : List (List Bool)
@@ -17,11 +17,11 @@ row_at r row = slice_index_or r.rows row []
 abbrev pub get : Rows → ℕ → ℕ → Bool
 get r row bit = slice_index_or (row_at r row) bit false
 
--- a row of so many bits that has these truth values
+-- a row of that width with these truth values
 unfoldable pub row_of : ℕ → (ℕ → Bool) → List Bool
 row_of bits value = map value (range_with_len 0 bits)
 
--- one edit more, and none where the counter is at its last value: it never falls
+-- one edit more, and none if the counter is at its last value: it never falls
 abbrev pub one_more : ℕ → ℕ
 one_more edits = edits + min 1 (2 ^ 64 - 1 - edits)
 
@@ -37,12 +37,12 @@ empty_rows rows bits = record { bits = bits; rows = replicate rows (replicate bi
 abbrev pub NoneTrue : Rows → ℕ → ℕ → ℕ → Type 0
 NoneTrue r row start end = (bit : ℕ) → start ≤ bit → bit < end → get r row bit ≡ false
 
--- so many rows of so many bits
+-- the number of rows and their width
 pub record HasShape (r : Rows) (rows bits : ℕ) : Type 0 where
   pub tall : length r.rows ≡ rows
   pub wide : r.bits ≡ bits
 
--- one row of so many rows has these truth values now, bit by bit, and the others stay
+-- one of the rows has these truth values now, bit by bit, and the others stay
 pub record SetsBits (old new : Rows) (rows bits row : ℕ) (value : ℕ → Bool) : Type 0 where
   pub shape : HasShape new rows bits
   pub at : (bit : ℕ) → bit < bits → get new row bit ≡ value bit

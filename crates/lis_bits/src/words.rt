@@ -4,7 +4,7 @@ ghost use Rattle.std.specs.Int.{bit_not, w64};
 ghost use Rattle.lis_bits.specs.Bytes.{bits_number, bits_bytes};
 ghost use Rattle.lis_bits.specs.Words.{Joins, JoinsWith, AreApart, word_bit, words_bit, IsNextIn, NoneNextIn, IsNextFrom, NoneNextFrom, HasBytes};
 
-// Sets each of the `width` words from `to` on to what `op` gives of it and of the word as far on from `from`.
+// Sets each of the `width` words from `to` on to what `op` gives of it and of the word at the same distance from `from`.
 pub(crate) fn join<F: Fn(u64, u64) -> u64>(
     words: &mut [u64],
     to: usize,
@@ -24,7 +24,7 @@ pub(crate) fn join<F: Fn(u64, u64) -> u64>(
     }
 }
 
-// Sets each of the words from `to` on to what `op` gives of it and of the other word of its place.
+// Sets each of the words from `to` on to what `op` gives of it and of the other word of the same index.
 pub(crate) fn join_with<F: Fn(u64, u64) -> u64>(words: &mut [u64], to: usize, others: &[u64], op: F)
     requires callable { F.IsAlwaysCallable op }
     requires to_in { to + length others.now ≤ length words.old }

@@ -15,7 +15,7 @@ use Rattle.std.proofs.lemmas.Map.Lookups.{exact_bytes}
 use Rattle.lis_graph.proofs.Members.{Among, contains_from_among}
 use Rattle.lis_words.specs.Words.{word_cmp}
 use Rattle.lis_dict.specs.Dict.{IsAgain, IsFirstAgain}
-use Rattle.lis_dict.specs.Inside.{Holders, word_in, number_cmp, IsHeld, IsOrdered, IsRepeat, IsLeastRepeat}
+use Rattle.lis_dict.specs.Inside.{Holders, word_in, number_cmp, IsHeld, RisesByWord, IsRepeat, IsLeastRepeat}
 use Rattle.lis_dict.proofs.Entries.{word_order, turned}
 use Rattle.lis_dict.proofs.Places.{among_at}
 
@@ -104,7 +104,7 @@ module _ (held : Holders) (order : List ℕ) (room : ℕ) (h : IsHeld held order
       let at = contains_from_among order n (stands n word is) in
       (at.0, at.1, get_or_default order at.0 0 n at.1 ∙ at.2)
 
-  module _ (ordered : IsOrdered held order) where
+  module _ (ordered : RisesByWord held order) where
     far : (i j : ℕ) → i ≤ j → j < length order → is_lt (number_cmp held (get_or order j 0) (get_or order i 0)) ≡ false
     far i j le lt = sorted_far (λ m n. is_lt (number_cmp held m n)) (ranked held) order ordered i j 0 le lt
 

@@ -12,7 +12,7 @@ use Rattle.std.proofs.lemmas.Map.Lookups.{exact_bytes}
 use Rattle.lis_graph.proofs.Members.{Among, contains_from_among, among_map, map_among}
 use Rattle.lis_words.specs.Words.{is_property, word_cmp}
 use Rattle.lis_dict.specs.Dict.{IsDict, words, word_of}
-use Rattle.lis_dict.specs.Inside.{Holders, word_in, entry_in, dict_of, IsSoundDict, IsHeld, IsOrdered, IsLeastRepeat}
+use Rattle.lis_dict.specs.Inside.{Holders, word_in, entry_in, dict_of, IsSoundDict, IsHeld, RisesByWord, IsLeastRepeat}
 use Rattle.lis_dict.proofs.Entries.{DictEntry, Ordered, Apart, below_none, turned, rising_from_ordered, distinct_from_apart}
 use Rattle.lis_dict.proofs.Finds.{all_from, none_found}
 use Rattle.lis_dict.proofs.Laws.{word_from_among}
@@ -49,7 +49,7 @@ apart_from held (n ∷ ns) h = (λ x m same. differ x m (among_map (entry_in hel
         let tied : x.0 ≡ word_in held n = sym (ap (λ (e : DictEntry). e.0) found.2) ∙ ap (word_in held) number in
         below_none (word_in held n) (subst (λ w. word_cmp (word_in held n) w ≡ Less) tied (h.0 x m))
 
-module _ (held : Holders) (order : List ℕ) (room : ℕ) (h : IsHeld held order room) (by_word : IsOrdered held order) (none : IsLeastRepeat held order (length order) None)
+module _ (held : Holders) (order : List ℕ) (room : ℕ) (h : IsHeld held order room) (by_word : RisesByWord held order) (none : IsLeastRepeat held order (length order) None)
     (forms : (k : ℕ) → k < length order → IsTrue (is_property (word_in held (get_or order k 0)))) where
   abbrev es : List DictEntry
   es = map (entry_in held) order

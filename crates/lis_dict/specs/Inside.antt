@@ -47,8 +47,8 @@ abbrev pub number_cmp : Holders → ℕ → ℕ → Ordering
 number_cmp holders m n = ordering_then (word_cmp (word_in holders m) (word_in holders n)) (nat_cmp m n)
 
 -- the order is sorted
-abbrev pub IsOrdered : Holders → List ℕ → Type 0
-IsOrdered holders order = IsSortedBy (λ m n. is_lt (number_cmp holders m n)) order
+abbrev pub RisesByWord : Holders → List ℕ → Type 0
+RisesByWord holders order = IsSortedBy (λ m n. is_lt (number_cmp holders m n)) order
 
 -- the lower of two numbers; the first one may be missing
 abbrev pub lower : Option ℕ → ℕ → ℕ

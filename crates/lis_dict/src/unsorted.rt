@@ -2,7 +2,7 @@ ghost use Rattle.std.specs.Prelude.{◌≡◌, ℕ, ◌<◌, None, Some, is_some
 ghost use Rattle.lis_words.specs.Words.{is_property};
 ghost use Rattle.lis_model.specs.Ranges.{is_props_limit};
 ghost use Rattle.lis_dict.specs.Dict.{HasWords, IsFirstAgain};
-ghost use Rattle.lis_dict.specs.Inside.{IsHeld, IsOrdered, word_in, number_cmp, lower, IsLeastRepeat};
+ghost use Rattle.lis_dict.specs.Inside.{IsHeld, RisesByWord, word_in, number_cmp, lower, IsLeastRepeat};
 
 use crate::dict::{Dict, bytes_at};
 use lis_words::Word;
@@ -44,7 +44,7 @@ fn compare(holders: &[Option<Word>], number: u32, other: u32) -> Ordering
 fn put_in_order(holders: &[Option<Word>], order: &mut Vec<u32>)
     requires { IsHeld holders.now order.old.items (vec_capacity order.old) }
     ensures held { IsHeld holders.now order.new.items (vec_capacity order.new) }
-    ensures ordered { IsOrdered holders.now order.new.items }
+    ensures ordered { RisesByWord holders.now order.new.items }
 {
     order.sort_unstable_by(|number, other| compare(holders, *number, *other));
 }

@@ -70,12 +70,10 @@ module _ (journal : Held) {m : Meaning} {kept : ℕ → List ℕ} (fits : Fits j
       }
 
 -- what was read, if nothing is staged
-pub block_read : (staged : List HomeBlock) (kept : ℕ → List ℕ) (home other long size at : ℕ) (bytes : List ℕ) → staged ≡ [] → home ≡ other → long ≡ size
-    → bytes ≡ take (long - at) (look staged home (kept home)) → bytes ≡ take (size - at) (kept other)
-block_read staged kept home other long size at bytes none same sized read =
-    read
-    ∙ (ap (λ es. take (long - at) (look es home (kept home))) none
-    ∙ (ap (λ n. take (n - at) (kept home)) sized ∙ ap (λ h. take (size - at) (kept h)) same))
+pub block_read : (staged : List HomeBlock) (kept : ℕ → List ℕ) (home long size at : ℕ) (bytes : List ℕ) → staged ≡ [] → long ≡ size → bytes ≡ take (long - at) (look staged home (kept home))
+    → bytes ≡ take (size - at) (kept home)
+block_read staged kept home long size at bytes none sized read =
+    read ∙ (ap (λ es. take (long - at) (look es home (kept home))) none ∙ ap (λ n. take (n - at) (kept home)) sized)
 
 -- the content of a record's file, by all its blocks
 pub content_of_told : (limits : Limits) (rec : FileRecord) (kept : ℕ → List ℕ) (base count : ℕ) (blocks part : List ℕ) → base ≡ data_start limits → count ≡ blocks_needed rec.size

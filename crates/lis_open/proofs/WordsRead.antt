@@ -99,22 +99,6 @@ ended_at limits at slots end found spelled none read = record { spelled = spelle
 
 -- ---- the words, sorted
 module _ (limits : Limits) (slots : WordSlots) (end : ℕ) (first : AreFirstSlots limits slots end) (d : Dict) (kept : IsDict d) (has : HasWords d slots.unsorted) where
-  pub words_made : IsTrue (are_in_range limits) → AreFirstWords limits (record { dict = d; declared = slots.declared }) limits.props
-  words_made range =
-      let props : d.props ≡ limits.props = has.0 ∙ first.long in
-      record {
-        are = record {
-          dict = kept;
-          few = omega (arith, props, few_properties limits range);
-          long = first.flags ∙ sym props;
-          forms = λ n. subst (λ o. IsTrue (is_prop (property_by o (is_taken slots.declared n)))) (sym (has.1 n)) (first.forms n);
-          flagged = λ n bit. subst IsSome (sym (has.1 n)) (first.flagged n bit);
-        };
-        props = props;
-        rest = λ n le. has.1 n ∙ first.rest n (omega (arith, le, first.within));
-        counted = omega (arith, props, kept.few);
-      }
-
   -- no word has two numbers
   pub none_again : (n : ℕ) → IsAgain slots.unsorted n → ⊥
   none_again n again =

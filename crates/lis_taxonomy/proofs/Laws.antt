@@ -15,7 +15,7 @@ nat_decides x y = (eqb-true x y, eq-eqb x y)
 pub no_links_ordered : IsOrdered no_links
 no_links_ordered = record { joined = λ p q r h k. absurd (among_from_contains [] q h); apart = λ p h. absurd (among_from_contains [] p h) }
 
--- the test of entailment tells what chains of edges lead to
+-- the test of entailment is whether a chain of edges leads there
 pub entails_decides : (t : Taxonomy) (p q : ℕ) → Decides (entails t p q) (Entails t p q)
 unfolding entails
 entails_decides t p q = up_decides nat_eq nat_cmp no_links nat_decides exact_unsigned no_links_ordered (set.items t.edges) p q

@@ -1,4 +1,4 @@
--- What a contract sees of the edges, and how one edge more or less changes it.
+-- The value of the edges in contracts, and how one edge more or less changes it.
 use Rattle.std.proofs.Common.{◌≡◌, ◌⊎◌, ◌↔◌, Result, Ok, Err, IfOk, IfErr, is_ok, ℕ, ◌+◌, ◌*◌, ◌<◌, ◌≤◌, Bool, true, false, cond, not, ◌&&◌, ◌||◌, nat_eq, List, [], ◌∷◌, length, get_or, set, replicate, Decides, refl, sym, ap, subst, ◌∙◌, inl, inr, arith, length-set, get_or-set_same, get_or-set_other}
 use Rattle.std.proofs.lemmas.Bool.{cases_eq}
 use Rattle.std.proofs.lemmas.List.{length-replicate}
@@ -58,7 +58,7 @@ from_items es e m = (contains_decides es e).0 ((items_decide (set.from_list {R =
 to_items : (es : List (ℕ × ℕ)) (e : ℕ × ℕ) → Among es e → Among (set.items (set.from_list {R = pair_cmp} es)) e
 to_items es e m = (items_decide (set.from_list {R = pair_cmp} es) e).0 ((contains_decides es e).1 m)
 
--- ---- what a contract sees
+-- ---- the value in contracts
 module _ (es : List (ℕ × ℕ)) (props : ℕ) where
   pub entails_seen : (p q : ℕ) → chains.Entails no_links es p q → Entails (seen es props) p q
   entails_seen p q e = graph.entails_within no_links es (set.items (seen es props).edges) (to_items es) p q e

@@ -33,7 +33,7 @@ pub record IsGap (edges : List (ℕ × ℕ)) (p q place : ℕ) : Type 0 where
   pub at : IsPlace edges p q place
   pub absent : (k : ℕ) → k < length edges → edge_at edges k ≢ (p, q)
 
--- what a contract sees of the edges
+-- the value of the edges in contracts
 abbrev pub seen : List (ℕ × ℕ) → ℕ → Taxonomy
 seen edges props = record { props = props; edges = set.from_list edges }
 

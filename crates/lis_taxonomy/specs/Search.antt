@@ -1,4 +1,4 @@
--- What a contract sees of a `Search`: the numbers that it found.
+-- The value of a `Search` in contracts: the numbers that it found.
 use Rattle.std.specs.Prelude.{ℕ, ◌<◌, ◌≤◌, Bool, nat_eq, List, ◌∷◌, [], ◌++◌, if◌then◌else◌, IsTrue}
 use Rattle.lis_limits.specs.declared.TheConstants.{MAX_PROPS}
 use Rattle.lis_graph.specs.Graph.{has}

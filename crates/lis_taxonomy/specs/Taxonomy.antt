@@ -1,4 +1,4 @@
--- What a contract sees of a `Taxonomy`.
+-- The value of a `Taxonomy` in contracts.
 use Rattle.std.specs.Prelude.{◌≢◌, ℕ, ◌<◌, ◌*◌, Bool, IsTrue, nat_eq, List, [], refl}
 use Rattle.std.specs.List.{list_any}
 use Rattle.std.specs.declared.cmp.Ordering.{Ordering}

@@ -6,7 +6,7 @@ pub loop-number-init : goal.loop-number-init
 loop-number-init c = below_none c.args.words.now c.requires.words.are.dict c.args.limits.now.props c.args.taxonomy.now c.requires.heads
 
 pub link_next-requires-clause-few : goal.link_next-requires-clause-few
-link_next-requires-clause-few c = few_properties c.args.limits.now c.requires.range
+link_next-requires-clause-few c = omega (arith, few_properties c.args.limits.now c.requires.range, c.requires.heads.props, c.loop-number.invariant.props)
 
 pub link_next-requires-clause-room : goal.link_next-requires-clause-room
 link_next-requires-clause-room c =

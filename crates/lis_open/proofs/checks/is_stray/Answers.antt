@@ -5,17 +5,13 @@ use Rattle.lis_open.proofs.checks.is_stray.Goals as goal
 pub returns-then-is_had : goal.returns-then-is_had
 returns-then-is_had c =
     let words = c.args.words.now in
-    let ext = c.args.ext.now in
-    let had = c.is_had.ensures ∙ ap (is_had ext) c.from-number.ensures in
-    stray_not (is_some (word_of words.dict c.args.number)) (is_taken words.declared c.args.number) (is_had ext c.args.number) (get c.args.lefts.now 0 c.args.number)
-    (sym had ∙ c.if-is_had.true)
+    stray_not (is_some (word_of words.dict c.args.number)) (is_taken words.declared c.args.number) (is_had c.args.ext.now c.args.number) (get c.args.lefts.now 0 c.args.number)
+    (sym c.is_had.ensures ∙ c.if-is_had.true)
 
 pub returns : goal.returns
 returns c =
     let words = c.args.words.now in
-    let ext = c.args.ext.now in
-    let had = c.is_had.ensures ∙ ap (is_had ext) c.from-number.ensures in
-    ap not (c.get-2.ensures ∙ ap (get c.args.lefts.now 0) c.from-number.ensures)
-    ∙ stray_is (is_some (word_of words.dict c.args.number)) (is_taken words.declared c.args.number) (is_had ext c.args.number) (get c.args.lefts.now 0 c.args.number)
-    (ap is_some (sym c.word_of.ensures) ∙ c.if-is_none.ensures) (ap (is_taken words.declared) (sym c.from-number.ensures) ∙ (sym c.get.ensures ∙ c.if-get.false))
-    (sym had ∙ c.if-is_had.false)
+    ap not c.get-2.ensures
+    ∙ stray_is (is_some (word_of words.dict c.args.number)) (is_taken words.declared c.args.number) (is_had c.args.ext.now c.args.number) (get c.args.lefts.now 0 c.args.number)
+    (ap is_some (sym c.word_of.ensures) ∙ c.if-is_none.ensures) (sym c.get.ensures ∙ c.if-get.false)
+    (sym c.is_had.ensures ∙ c.if-is_had.false)

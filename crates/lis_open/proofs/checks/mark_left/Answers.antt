@@ -8,7 +8,7 @@ put-requires-2-clause-bit c =
     let d = c.args.words.now.dict in
     let below = head_below d c.requires.words.dict c.in-Pair.left (Some c.in-Some.head) d.props c.in-Some.ensures refl in
     let wide = ap (λ (r : Rows). r.bits) c.put.ensures in
-    omega (arith, below, c.from.ensures, c.requires.shape.wide, wide)
+    omega (arith, below, c.requires.shape.wide, wide)
 
 pub returns-in_default-head_number-clause-bits : goal.returns-in_default-head_number-clause-bits
 returns-in_default-head_number-clause-bits c = λ n below.
@@ -19,6 +19,6 @@ returns-in_default-head_number-clause-bits c = λ n below.
 pub returns-clause-bits : goal.returns-clause-bits
 returns-clause-bits c = λ n below.
     let d = c.args.words.now.dict in
-    both_marked d c.requires.words.dict c.in-Pair.left n c.args.row.now c.put.new.self c.put-2.new.self d.props c.from.result c.requires.shape c.put.ensures
-    (sym c.in-Some.ensures ∙ ap Some (sym c.from.ensures)) c.put-2.ensures below
+    both_marked d c.requires.words.dict c.in-Pair.left n c.args.row.now c.put.new.self c.put-2.new.self d.props c.in-Some.head c.requires.shape c.put.ensures
+    (sym c.in-Some.ensures) c.put-2.ensures below
     ∙ ap (λ slot. get c.args.row.now 0 n || (is_left_of n slot || is_left_head_of d n slot)) (sym c.in-Pair.is)

@@ -10,7 +10,7 @@ use Rattle.lis_open.proofs.contents.read_front.Goals as goal
 pub read_block-requires-clause-within : goal.read_block-requires-clause-within
 read_block-requires-clause-within g c =
     let passes = number_passes (λ b. nat_lt (c.args.base + b) c.args.journal.now.layout.blocks) c.args.blocks.now c.loop-n.n c.requires.within c.loop-n-test.true in
-    omega (arith, ltb-true _ _ passes, c.from.ensures)
+    omega (arith, ltb-true _ _ passes)
 
 pub loop-n-preserved : goal.loop-n-preserved
 loop-n-preserved g c =
@@ -28,7 +28,7 @@ loop-n-preserved g c =
       filled = λ kept fits.
           filled_next (λ b. kept (base + b)) ns n (length c.args.bytes.now) c.loop-n.bytes c.read_block.new.self (was.filled kept fits) c.loop-n-test.true c.requires.count
           (whole_at c.args.journal.now fits base ns c.requires.home c.requires.within n c.loop-n-test.true) read.place
-          (block_read c.args.journal.now.staged kept (base + c.from.result) (base + get_or ns n 0) _ _ (4096 * n) _ c.requires.clean (ap (λ b. base + b) c.from.ensures) was.sized
+          (block_read c.args.journal.now.staged kept (base + get_or ns n 0) _ _ (4096 * n) _ c.requires.clean was.sized
           (read.read kept (was.fits kept fits)));
     }
 

@@ -12,7 +12,7 @@ loop-number-preserved c =
     let l = c.loop-number in
     let numbers = c.args.numbers.now in
     let number = get_or numbers l.number-index 0 in
-    rw (c.meet.ensures, c.from.ensures)
+    rw c.meet.ensures
     (subst (λ ns. Gathered c.args.search.now (met l.search number) ns) (sym (take_more numbers l.number-index 0 c.loop-number-test.true))
     (gathered_then c.args.search.now l.search (met l.search number) (take l.number-index numbers) (number ∷ []) l.invariant (gathered_one l.search number)))
 

@@ -23,7 +23,7 @@ loop-word-preserved c =
     let l = c.loop-word in
     let words = c.as_slice-word-items.ensures.words in
     let word = c.word-item.result in
-    rw (c.meet.ensures, c.from.ensures)
+    rw c.meet.ensures
     (words_more c.args.words.now c.args.derived.now c.args.search.now l.search l.word-index word c.in-Some.number l.invariant (omega (arith, c.loop-word-test.true, ap length words))
     (c.word-item.is ∙ ap (λ ws. get_or ws l.word-index word) words) c.in-Some.ensures.0 c.in-Some.ensures.1)
 

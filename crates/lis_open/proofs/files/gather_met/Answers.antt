@@ -37,7 +37,7 @@ loop-k-preserved c =
     let named = number_from_among words.dict c.requires.dict c.in-Some.word c.in-Some.number (among_place words.dict.entries l.k (c.in-Some.word, c.in-Some.number) here) in
     elim c.if-is_met_word.branch [
       | then-is_met_word w ↦
-          subst (λ (found : List ℕ). MetSoFar words size old found (l.k + 1)) (sym (w.search-is ∙ (w.meet.ensures ∙ ap (met l.search) w.from.ensures)))
+          subst (λ (found : List ℕ). MetSoFar words size old found (l.k + 1)) (sym (w.search-is ∙ w.meet.ensures))
           (met_more words size old l.k c.in-Some.word c.in-Some.number here l.search l.invariant named (sym c.is_met_word.ensures ∙ w.if-is_met_word.true))
       | else-is_met_word w ↦
           subst (λ (found : List ℕ). MetSoFar words size old found (l.k + 1)) (sym w.search-is)

@@ -1,4 +1,4 @@
-use Rattle.lis_open.proofs.Common.{◌∙◌, sym, ap, ap₂, ◌+◌, ◌++◌, data_start}
+use Rattle.lis_open.proofs.Common.{◌∙◌, sym, ap, ◌+◌, ◌++◌, get_or, data_start}
 use Rattle.lis_open.proofs.BlocksRead.{large_found, large_missed}
 use Rattle.lis_open.proofs.indexes.all_blocks.Goals as goal
 use Rattle.std.proofs.Common.{arith}
@@ -9,11 +9,11 @@ read_numbers-requires-clause-home g c = omega (arith, c.data_start.ensures.start
 
 pub returns-in_default-clause-found : goal.returns-in_default-clause-found
 returns-in_default-clause-found g c = λ kept fits.
-    large_missed (data_start c.args.limits.now) c.args.slot.now c.args.size kept (c.data_start.result + c.from.result) (sym c.is_large.ensures ∙ c.if-not-is_large.false)
-    (ap₂ (λ a b. a + b) c.data_start.ensures.start c.from.ensures) (rw c.in_default.is at (c.in_ok-numbers.ensures.found kept fits))
+    large_missed (data_start c.args.limits.now) c.args.slot.now c.args.size kept (c.data_start.result + get_or c.args.slot.now 0 0) (sym c.is_large.ensures ∙ c.if-not-is_large.false)
+    (ap (λ n. n + get_or c.args.slot.now 0 0) c.data_start.ensures.start) (rw c.in_default.is at (c.in_ok-numbers.ensures.found kept fits))
 
 pub returns-clause-found : goal.returns-clause-found
 returns-clause-found g c = λ kept fits.
-    large_found (data_start c.args.limits.now) c.args.slot.now c.args.size kept (c.data_start.result + c.from.result) c.in-Some.numbers.items c.joined-2.result.items (sym c.is_large.ensures ∙ c.if-not-is_large.false)
-    (ap₂ (λ a b. a + b) c.data_start.ensures.start c.from.ensures) (rw c.in-Some.is at (c.in_ok-numbers.ensures.found kept fits))
+    large_found (data_start c.args.limits.now) c.args.slot.now c.args.size kept (c.data_start.result + get_or c.args.slot.now 0 0) c.in-Some.numbers.items c.joined-2.result.items (sym c.is_large.ensures ∙ c.if-not-is_large.false)
+    (ap (λ n. n + get_or c.args.slot.now 0 0) c.data_start.ensures.start) (rw c.in-Some.is at (c.in_ok-numbers.ensures.found kept fits))
     (c.joined-2.ensures ∙ ap (λ ns. ns ++ c.args.slot.now) c.as_slice.ensures.value)
