@@ -19,6 +19,7 @@ use Rattle.lis_open.specs.declared.words.Words.{Words}
 use Rattle.lis_open.specs.declared.axioms.Axioms.{Axioms}
 use Rattle.lis_open.specs.declared.files.Files.{Files}
 use Rattle.lis_open.specs.Checks.{AreContents, IsUsed, WordFails, BitFails, RowFault, RowFails, Fails, rank}
+use Rattle.lis_open.specs.ReadFiles.{in_catalog}
 use Rattle.lis_open.specs.ReadAll.{metadata_in, AreNoMarks, is_stray, IsFirstStray, IsRowSpelled, IsFirstRow, row_place, AreRead, HasStray, Differs, RowsChecked, PartsEnded}
 use Rattle.lis_open.proofs.Once.{rising_map}
 use Rattle.lis_open.proofs.Descriptions.{told_among, among_told, one_number, pair_among, among_pair, Sides, sides}
@@ -78,7 +79,7 @@ module _ (limits : Limits) (at : ℕ → List ℕ) (words : Words) (axioms : Axi
     count = length-map-range_with_len (record_at files.catalog) 0 limits.files;
     each = λ n value is.
         let given = given_at (record_at files.catalog) limits.files n value is in
-        let there = file_is limits words axioms files limits.files read.words_are read.axioms_are read.files_are at read.properties read.pairs read.records.spelled n given.0 given.0 in
+        let there = file_is limits words axioms (in_catalog files) limits.files read.words_are read.axioms_are read.files_are.taken at read.properties read.pairs read.records.spelled n given.0 given.0 in
         (there.bytes ∙ ap file_bytes given.1, subst (λ x. IsTrue (is_file limits.version x)) given.1 there.range);
   }
 
@@ -99,7 +100,7 @@ module _ (limits : Limits) (at : ℕ → List ℕ) (words : Words) (axioms : Axi
   record_there : (f : Filed) → Among files.catalog.entries f → Among records f.rec
   record_there f m =
       let is = filed_rec files.catalog read.files_are.catalog f m in
-      let lt = slot_read limits words axioms files limits.files read.words_are read.axioms_are read.files_are f.slot f.rec is in
+      let lt = slot_read limits words axioms (in_catalog files) limits.files read.words_are read.axioms_are read.files_are.taken f.slot f.rec is in
       flat_map_among records_in contents.files (record_at files.catalog f.slot) f.rec (map_among (record_at files.catalog) slots f.slot (range_among 0 limits.files f.slot (omega arith) (omega arith)))
       (subst (λ o. Among (records_in (file_by o)) f.rec) (sym is) (inl refl))
 
@@ -140,7 +141,7 @@ module _ (limits : Limits) (at : ℕ → List ℕ) (words : Words) (axioms : Axi
 
   module _ (n : ℕ) (w : List ℕ) (is : word_of words.dict n ≡ Some w) where
     had : (slot : ℕ) (o : Option FileRecord) → rec_at files.catalog slot ≡ o → has files.ext n slot ≡ true → Among (known s) w
-    had slot None none h = absurd (both_ways (has files.ext n slot) (slots_without limits words axioms files limits.files read.files_are slot none n) h)
+    had slot None none h = absurd (both_ways (has files.ext n slot) (slots_without limits words axioms files read.files_are slot none n) h)
     had slot (Some rec) there h =
         let f : Filed = record { slot = slot; rec = rec } in
         let m = filed_at_slot files.catalog read.files_are.catalog slot rec there in
@@ -262,17 +263,17 @@ module _ (limits : Limits) (at : ℕ → List ℕ) (words : Words) (axioms : Axi
   -- ---- the bitmap
   used_taken : (n : ℕ) → IsUsed limits at n → is_taken files.map n ≡ true
   used_taken n used =
-      let rec = rec_is limits words axioms files limits.files read.words_are read.axioms_are read.files_are at read.properties read.pairs read.records.spelled used.slot used.rec used.is.below used.is in
+      let rec = rec_is limits words axioms (in_catalog files) limits.files read.words_are read.axioms_are read.files_are.taken at read.properties read.pairs read.records.spelled used.slot used.rec used.is.below used.is in
       read.records.blocks.taken used.slot used.rec n rec used.has
 
   taken_used : (n : ℕ) → is_taken files.map n ≡ true → IsUsed limits at n
   taken_used n taken =
       let owner = read.records.blocks.in_use n taken in
-      let lt = slot_read limits words axioms files limits.files read.words_are read.axioms_are read.files_are owner.0 owner.1 owner.2 in
+      let lt = slot_read limits words axioms (in_catalog files) limits.files read.words_are read.axioms_are read.files_are.taken owner.0 owner.1 owner.2 in
       record {
         slot = owner.0;
         rec = owner.1;
-        is = used_is limits words axioms files limits.files read.words_are read.axioms_are read.files_are at read.properties read.pairs read.records.spelled owner.0 owner.1 lt owner.2;
+        is = used_is limits words axioms (in_catalog files) limits.files read.words_are read.axioms_are read.files_are.taken at read.properties read.pairs read.records.spelled owner.0 owner.1 lt owner.2;
         has = owner.3;
       }
 
@@ -312,7 +313,7 @@ module _ (limits : Limits) (at : ℕ → List ℕ) (words : Words) (axioms : Axi
         by : (o : Option (List ℕ)) (r : Option FileRecord) → word_of words.dict p ≡ o → rec_at files.catalog i ≡ r
             → has files.ext p i ≡ is_had_by held_state (file_of_record limits held_contents.properties at) (word_of words.dict p) (file_by (rec_at files.catalog i))
         by o None is none =
-            slots_without limits words axioms files limits.files read.files_are i none p
+            slots_without limits words axioms files read.files_are i none p
             ∙ sym (ap (λ r. is_had_by held_state (file_of_record limits held_contents.properties at) (word_of words.dict p) (file_by r)) none ∙ nothing (word_of words.dict p))
         by None (Some rec) is there =
             false_from_ne_true (has files.ext p i) (λ h. both_ways (is_some (word_of words.dict p)) (ap is_some is) (named limits words axioms files (no_marks limits) all_read p i h))
@@ -327,12 +328,12 @@ module _ (limits : Limits) (at : ℕ → List ℕ) (words : Words) (axioms : Axi
 
     row_is : (p : ℕ) → row_bytes files.ext p ≡ bits_bytes (limits.files / 8) (row_bit (spelled_state limits held_contents at) limits held_contents at p)
     row_is p =
-        ap (λ n. bits_bytes (n / 8) (has files.ext p)) read.files_are.count
+        ap (λ n. bits_bytes (n / 8) (has files.ext p)) read.files_are.taken.count
         ∙ (bytes_same (limits.files / 8) (has files.ext p) (row_bit held_state limits held_contents at p) (λ i small. bit_is p i (omega (arith, small)))
         ∙ ap (λ (t : State). bits_bytes (limits.files / 8) (row_bit t limits held_contents at p)) (sym (state_read limits at words axioms files (no_marks limits) read)))
 
     rest_is : (p : ℕ) → limits.props ≤ p → row_bytes files.ext p ≡ zeros (limits.files / 8)
-    rest_is p past = no_file_has files.ext limits.files p read.files_are.count (λ slot. none_past limits words axioms files (no_marks limits) all_read p slot past)
+    rest_is p past = no_file_has files.ext limits.files p read.files_are.taken.count (λ slot. none_past limits words axioms files (no_marks limits) all_read p slot past)
 
     row_passes : (m : ℕ) → m < limits.props → IsRowSpelled limits at files.ext m → RowFails limits at m → ⊥
     row_passes m below spelled fails =
