@@ -1,6 +1,6 @@
 -- The contents of the slots that were read, and the state that they spell.
 pub use Rattle.lis_open.specs.ReadAll.{HasRead}
-use Rattle.std.proofs.Common.{◌≢◌}
+use Rattle.std.proofs.Common.{◌≢◌, IfOk}
 use Rattle.lis_open.proofs.Common.{rules, ◌≡◌, ◌∙◌, refl, sym, ap, ap₂, subst, inl, inr, ℕ, Bool, true, List, [], map, Option, Some, None, slice_get, IsTrue, arith, ◌+◌, ◌/◌, ◌<◌, ◌≤◌, not, false, is_some, replicate, Result, Ok, Err, IfSome, OnOk, ⊎_elim, fold, eq-eqb, insert_key, Among, contains_from_among, among_map, map_among, among_flat_map, IsDict, word_of, number_from_word, Filed, rec_at, has, numbers_at, FileRecord, file_bytes, is_file, Pair, FileSlot, word_cmp, is_valued, same_word, head_bytes, same_word_decides, Limits, State, file_cmp, description, known, Metadata, record_at, axiom_slots, file_slots, bit_of, words_told, file_told, state_of, is_head_by, is_used, among_from_number, filed_rec, filed_at_slot, declared_there, there_declared, Contents, AreSlots, all_records, spelled_state, contents_of, cases_eq, cases_lt, length-replicate, bits_bytes, is_taken, has_bit, FreeFile, among_from_has_word, Spot, Word, Row, are_in_range, bitmap_start, data_start, row_slots, AreSound, word_at, is_had_by, row_bit, and_parts, and_from, both_ways, false_from_ne_true, flat_map_among, File, has_from_among, file_of_record, not_true, zeros, has_word, has_word_from_among, Bitmap, or_left, list_any, is_left_of, is_left_head_of, any_from_among, among_place, cases_Bool}
 use Rattle.std.specs.List.{range_with_len}
 use Rattle.std.proofs.lemmas.List.FromFn.{length-map-range_with_len, get_or-map-range_with_len}
@@ -19,8 +19,9 @@ use Rattle.lis_open.specs.declared.words.Words.{Words}
 use Rattle.lis_open.specs.declared.axioms.Axioms.{Axioms}
 use Rattle.lis_open.specs.declared.files.Files.{Files}
 use Rattle.lis_open.specs.Checks.{AreContents, IsUsed, WordFails, BitFails, RowFault, RowFails, Fails, rank}
-use Rattle.lis_open.specs.ReadFiles.{in_catalog}
-use Rattle.lis_open.specs.ReadAll.{metadata_in, AreNoMarks, is_stray, IsFirstStray, IsRowSpelled, IsFirstRow, row_place, AreRead, HasStray, Differs, RowsChecked, PartsEnded}
+use Rattle.lis_open.specs.ReadWords.{AreFirstWords, AreFirstAxioms, WordsAreSpelled, AxiomsAreSpelled}
+use Rattle.lis_open.specs.ReadFiles.{in_catalog, AreFiles, FilesEnded}
+use Rattle.lis_open.specs.ReadAll.{metadata_in, AreNoMarks, is_stray, IsFirstStray, IsRowSpelled, IsFirstRow, row_place, AreSlotsRead, SlotsEnded, AreRead, HasStray, Differs, RowsChecked, PartsEnded}
 use Rattle.lis_open.proofs.Once.{rising_map}
 use Rattle.lis_open.proofs.Descriptions.{told_among, among_told, one_number, pair_among, among_pair, Sides, sides}
 use Rattle.lis_open.proofs.FilesRead.{file_is, slot_read, used_is, rec_is}
@@ -36,8 +37,11 @@ use Rattle.lis_kept.specs.Rows.{row_bytes}
 use Rattle.lis_kept.proofs.Formed.{some_word}
 use Rattle.lis_kept.proofs.Known.{number_told}
 use Rattle.lis_open.specs.Checks.RowFault.{RowWrong, RestNotZero}
-use Rattle.lis_ports.specs.Calls.{Rose}
-use Rattle.lis_open.specs.Reading.{IsFirst, IsFirstOfAll, HasPartCause, Recalls, KindFails, PartsFail}
+use Rattle.lis_ports.specs.Calls.{Rose, OnlyReads, DiskFaultEnds}
+use Rattle.lis_ports.specs.Meaning.{Meaning}
+use Rattle.lis_ports.proofs.Ending.{ends_then}
+use Rattle.lis_ports.proofs.OnlyReading.{reads_then}
+use Rattle.lis_open.specs.Reading.{IsFirst, IsFirstOfAll, Passes, HasPartCause, ReadsPart, Recalls, KindFails, PartsFail}
 use Rattle.lis_open.proofs.Damage.{one_contents}
 use Rattle.lis_open.proofs.SpotKinds.{none_before, none_fails}
 use Rattle.lis_open.proofs.Lefts.{no_file_has, row_place_is}
@@ -366,6 +370,23 @@ kind_failed limits at kind (Damaged spot) below fails = first_of_all limits at k
 kind_failed limits at kind DiskFault below fails = tt
 kind_failed limits at kind NoMemory below fails = fails
 
+-- the slots, after those of words and axioms
+module _ (limits : Limits) (words : Words) (axioms : Axioms) (words_are : AreFirstWords limits words limits.props) (axioms_are : AreFirstAxioms limits words axioms (axiom_slots limits).count) where
+  pub files_read : (result : Result Files OpenFault) → IfOk result (λ files. AreFiles limits words axioms files) → IfOk result (λ files. AreSlotsRead limits words axioms files)
+  files_read (Ok files) read = record { words_are = words_are; axioms_are = axioms_are; files_are = read }
+  files_read (Err fault) read = tt
+
+  module _ (at : ℕ → List ℕ) (properties : Passes limits at 2 (WordsAreSpelled limits at words limits.props)) (pairs : Passes limits at 3 (AxiomsAreSpelled limits at axioms (axiom_slots limits).count)) where
+    pass_pairs : PassBelow limits at 4
+    pass_pairs = pass_more limits at 3 (pass_more limits at 2 (none_below limits at) properties.none) pairs.none
+
+    pub files_ended : (result : Result Files OpenFault) → IfOk result (λ files. AreFiles limits words axioms files) → FilesEnded limits at words axioms result → SlotsEnded limits at words axioms result
+    files_ended (Ok files) read ended = record {
+      read = record { words_are = words_are; axioms_are = axioms_are; files_are = read; properties = properties.is; pairs = pairs.is; records = ended.is };
+      none = pass_more limits at 4 pass_pairs ended.none;
+    }
+    files_ended (Err fault) read ended = kind_failed limits at 4 fault pass_pairs ended
+
 module _ (limits : Limits) (at : ℕ → List ℕ) (words : Words) (axioms : Axioms) (files : Files) (read : HasRead limits at words axioms files) (below : PassBelow limits at 5) where
   abbrev unmarked : List Bool
   unmarked = replicate (data_start limits) false
@@ -408,6 +429,14 @@ none_recalled last kept none = subst (λ o. IfSome o (λ n. last.bytes ≡ kept 
 pub on_ok : {T E P : Type 0} (r : Result T E) → P → OnOk r P
 on_ok (Ok done) holds = holds
 on_ok (Err fault) holds = tt
+
+-- a reader, after one that ended well
+pub reads_after : {T : Type 0} (old between new : Meaning) (result : Result T OpenFault) → OnlyReads old between → between.disk_faults ≡ old.disk_faults → DiskFaultEnds old between → ReadsPart between new result → ReadsPart old new result
+reads_after old between new result reads same first_fault later = record {
+  reads = reads_then reads later.reads;
+  cause = subst (λ n. HasPartCause n new.disk_faults result) same later.cause;
+  first_fault = ends_then first_fault same later.first_fault;
+}
 
 -- ---- causes
 -- of a reader, after one that ended well

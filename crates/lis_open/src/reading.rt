@@ -46,10 +46,7 @@ fn read_slots<D: Disk>(
         → Passes limits.now kept 2 (WordsAreSpelled limits.now kept words.now limits.now.props)
         → SlotsEnded limits.now kept words.now memory.new.axioms result }
 {
-    if let Err(fault) = read_axioms(last, disk, journal, limits, words, &mut memory.axioms) {
-        slots.close();
-        return Err(fault);
-    }
+    read_axioms(last, disk, journal, limits, words, &mut memory.axioms)?;
     let known = Known {
         journal,
         limits,
@@ -143,13 +140,7 @@ fn read_parts<D: Disk>(
         → AllEnded limits.now kept memory.new.axioms result }
 {
     let mut last = LastBlock::new();
-    let words = match read_words(&mut last, disk, journal, limits, slots) {
-        Ok(words) => words,
-        Err(fault) => {
-            file_slots.close();
-            return Err(fault);
-        }
-    };
+    let words = read_words(&mut last, disk, journal, limits, slots)?;
     match read_later(&mut last, disk, journal, limits, &words, file_slots, memory) {
         Ok(files) => Ok((words, files)),
         Err(fault) => {
