@@ -24,6 +24,8 @@ KEYWORDS = frozenset((b"if", b"for", b"while", b"switch", b"return", b"sizeof"))
 # The pieces of a source, each by its first bytes. A literal ends with its byte, before a line feed or at the end.
 PIECE = re.compile(rb"(?P<blank>[ \t]+)|(?P<feed>\n)|(?P<white>[\v\f\r]+)|(?P<identifier>[A-Za-z_][A-Za-z0-9_]*)|(?P<number>[0-9][A-Za-z0-9_.]*)"
                    rb"|(?P<comment>/\*.*?(?:\*/|\Z)|//[^\n]*)|(?P<literal>\"(?:[^\"\\\n]|\\[^\n])*\\?\"?|'(?:[^'\\\n]|\\[^\n])*\\?'?)|(?P<mark>.)", re.S)
+# The end of the last line of a header, before the empty line.
+HEADER_END = re.compile(rb"\n\r?\n")
 PATH = re.compile(rb"<([^>\n]*)>|\"([^\"\n]*)\"")
 # What a piece of a source is: the path of an include, or what a group of `PIECE` names. And where it stands: at the beginning of a line, behind
 # the `#` of a directive, behind its `include`, in another directive, or elsewhere. There is one for each token, and an enum would take twice
@@ -111,7 +113,8 @@ def mail_words(content: bytes) -> list[bytes]:
     """The words of a mail's header, repeats included."""
     found: list[bytes] = []
     kind: bytes | None = None
-    for line in content.split(b"\n"):
+    end = HEADER_END.search(content)
+    for line in content[:end.start() if end else None].split(b"\n"):
         line = line.removesuffix(b"\r")
         if not line:
             break

@@ -1,5 +1,5 @@
 -- The axioms of axiom slots, read one after another.
-use Rattle.lis_open.proofs.Common.{rules, ◌≡◌, ◌⊎◌, ◌∙◌, refl, sym, ap, ap₂, subst, inl, inr, ℕ, ◌+◌, ◌<◌, ◌==◌, nat_lt, Bool, true, false, ◌&&◌, ◌||◌, Option, Some, None, List, arith, eq-eqb, is_some, IfSome, ⊎_elim, ltb-true, lt-ltb, zero, suc, ◌≤◌, [], ◌∷◌, ◌++◌, length, take, set, replicate, slice_get, ◌^◌, ◌-◌, not, below_more, length-set, get_or-set_same, get_or-set_other, fold, length-take-le, Contains, take_all, and-false, cases_eq, Dict, IsDict, word_of, number_from_word, number_below, Taxonomy, has_edge, is_valued, head_bytes, same_word_decides, head_not_valued, is_head_by, or_left, or_right, or_cases, is_test, and_parts, both_ways, false_from_ne_true, insert_key, or-false, length-replicate, get_or_from_slice_get, same_Some, Chain, Among, among_from_any, Meaning, DiskFaultEnds, Held, Fits, slot, no_links, axiom_bytes, is_axiom, AxiomSlot, FreeAxiom, Pair, plain_not_valued, Limits, axiom_at, axiom_slots, pair_told, pairs_told, axioms_of, has_pair, among_place, cases_lt, among_from_contains, contains_from_among, number_of, word_from_number, Leads, PropSlot, axiom_once, is_plain_word, is_nameable, some_number, word_at, words_in, one_array, and_from, get_or_past, slice_get-get_or, any_from_among, pair_cmp, has_word, ⊎_map, property_slots, prop_bytes, is_prop, prop_once, cases_Bool}
+use Rattle.lis_open.proofs.Common.{rules, ◌≡◌, ◌⊎◌, ◌∙◌, refl, sym, ap, ap₂, subst, inl, inr, ℕ, ◌+◌, ◌<◌, ◌==◌, nat_lt, Bool, true, false, ◌&&◌, ◌||◌, Option, Some, None, List, arith, eq-eqb, is_some, IfSome, ⊎_elim, ltb-true, lt-ltb, zero, suc, ◌≤◌, [], ◌∷◌, ◌++◌, length, take, set, replicate, slice_get, ◌^◌, ◌-◌, not, below_more, length-set, get_or-set_same, get_or-set_other, fold, length-take-le, Contains, take_all, and-false, Dict, IsDict, word_of, number_from_word, number_below, Taxonomy, has_edge, is_valued, head_bytes, same_word_decides, head_not_valued, is_head_by, or_left, or_right, or_cases, is_test, and_parts, both_ways, false_from_ne_true, insert_key, or-false, length-replicate, get_or_from_slice_get, same_Some, Among, among_from_any, Meaning, DiskFaultEnds, Held, Fits, slot, axiom_bytes, is_axiom, AxiomSlot, FreeAxiom, Pair, plain_not_valued, Limits, axiom_at, axiom_slots, pair_told, pairs_told, axioms_of, has_pair, among_place, cases_lt, among_from_contains, contains_from_among, number_of, word_from_number, Leads, PropSlot, axiom_once, is_plain_word, is_nameable, some_number, word_at, words_in, one_array, and_from, get_or_past, slice_get-get_or, any_from_among, pair_cmp, has_word, ⊎_map, property_slots, prop_bytes, is_prop, prop_once, cases_Bool}
 use Rattle.std.proofs.lemmas.Bool.Decides.{nat_tests}
 use Rattle.lis_taxonomy.specs.Taxonomy.{pair_cmp as edge_cmp, edge_count, empty_taxonomy}
 use Rattle.lis_kept.specs.Edges.{with_edge_to}

@@ -1,15 +1,15 @@
 -- What is read of a file's content.
 use Rattle.std.proofs.Common.{◌-◌, take-append-drop, length-take-le}
 use Rattle.std.specs.List.{flat_map, list_all}
-use Rattle.lis_open.proofs.Common.{◌≡◌, ◌∙◌, inr, refl, sym, ap, ap₂, subst, ℕ, zero, suc, ◌+◌, ◌*◌, ◌<◌, ◌≤◌, nat_lt, ◌&&◌, Bool, true, List, [], ◌∷◌, ◌++◌, length, take, drop, get_or, IsTrue, arith, and_parts, ltb-true, length-drop, Meaning, DiskFaultEnds, Held, Fits, FileRecord, is_record, Limits, data_start, Among, list_all-append, blocks_needed, blocks_told, bytes_told, met_tests, all_among}
+use Rattle.lis_open.proofs.Common.{◌≡◌, ◌∙◌, inr, refl, sym, ap, ap₂, subst, ℕ, zero, suc, ◌+◌, ◌*◌, ◌<◌, ◌≤◌, nat_lt, Bool, true, List, [], ◌∷◌, ◌++◌, length, take, drop, get_or, IsTrue, arith, and_parts, ltb-true, length-drop, Meaning, DiskFaultEnds, Held, Fits, FileRecord, is_record, Limits, data_start, list_all-append, blocks_needed, blocks_told, bytes_told, met_tests, all_among}
 use Rattle.lis_ports.specs.Calls.{OnlyReads}
-use Rattle.lis_ports.specs.Bytes.{Torn, part}
+use Rattle.lis_ports.specs.Bytes.{part}
 use Rattle.lis_journal.specs.Images.{look}
 use Rattle.lis_journal.specs.Record.{homes_start, HomeBlock}
 use Rattle.lis_journal.proofs.Fitting.{kept_whole}
 use Rattle.lis_content.specs.Content.{are_within, content}
-use Rattle.lis_content.proofs.Reading.{IsFilled, filled_all}
-use Rattle.lis_content.proofs.Places.{content_first, filled_front, filled_next}
+use Rattle.lis_content.proofs.Reading.{IsFilled}
+use Rattle.lis_content.proofs.Places.{content_first, filled_front}
 use Rattle.lis_open.proofs.BlocksRead.{slot_of_form}
 use Rattle.lis_derive.specs.Fronts.{gives_all}
 use Rattle.lis_derive.proofs.FrontLemmas.{fronts_give_all}

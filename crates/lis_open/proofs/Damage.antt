@@ -1,6 +1,6 @@
 -- If blocks spell a state, no part fails its check.
 use Rattle.std.proofs.Common.{get_or-drop}
-use Rattle.lis_open.proofs.Common.{rules, ◌≡◌, ◌∙◌, refl, sym, ap, subst, inl, inr, ℕ, ◌+◌, ◌-◌, ◌<◌, ◌≤◌, nat_lt, nat_le, Bool, true, false, is_some, List, [], ◌∷◌, length, map, take, drop, get_or, slice_get, Option, Some, None, arith, option_to_list, length-drop, flat_map, ltb-true, leb-true, length-take-le, ⊎_elim, list_all, or-false, cases_lt, length-replicate, slice_get_within, get_or_from_slice_get, same_Some, Among, among_from_contains, contains_from_among, among_left, map_among, among_flat_map, block, Slots, has_bit, are_distinct, FileRecord, prop_bytes, is_prop, axiom_bytes, is_axiom, file_bytes, is_file, PropSlot, FreeProp, AxiomSlot, FreeAxiom, Pair, FileSlot, FreeFile, Used, prop_once, axiom_once, word_cmp, is_plain_word, head_bytes, among_from_has_word, among_set_of, Limits, Spot, Super, BadRecord, Property, Axiom, Word, Row, bitmap_start, image_blocks, State, description, known, is_nameable, is_assignable, property_slots, axiom_slots, file_slots, blocks_told, among_from_number, placed_at, among_place, Contents, AreSlots, word_in, words_in, word_at, all_records, spelled_state, one_array, AllApart, and_parts, both_ways, get_or_past, slice_get-get_or, flat_map_among, replayed, has_number, has_word, has_word_from_among, set_of_among, all_among, Bitmap, set_of, File, pair_cmp, has_from_among, file_of_record}
+use Rattle.lis_open.proofs.Common.{rules, ◌≡◌, ◌∙◌, refl, sym, ap, subst, inl, inr, ℕ, ◌+◌, ◌-◌, ◌<◌, ◌≤◌, nat_lt, nat_le, Bool, true, false, is_some, List, [], ◌∷◌, length, map, take, drop, get_or, slice_get, Option, Some, None, arith, option_to_list, length-drop, flat_map, ltb-true, leb-true, length-take-le, ⊎_elim, list_all, or-false, cases_lt, length-replicate, slice_get_within, get_or_from_slice_get, same_Some, Among, among_from_contains, contains_from_among, among_left, map_among, among_flat_map, block, Slots, has_bit, are_distinct, FileRecord, prop_bytes, is_prop, axiom_bytes, is_axiom, file_bytes, is_file, PropSlot, FreeProp, AxiomSlot, FreeAxiom, Pair, FileSlot, FreeFile, Used, prop_once, axiom_once, word_cmp, is_plain_word, head_bytes, among_from_has_word, among_set_of, Limits, Spot, Super, BadRecord, Property, Axiom, Word, Row, bitmap_start, State, description, known, is_nameable, is_assignable, property_slots, axiom_slots, file_slots, blocks_told, among_from_number, placed_at, among_place, Contents, AreSlots, word_in, words_in, word_at, all_records, spelled_state, one_array, AllApart, and_parts, both_ways, get_or_past, slice_get-get_or, flat_map_among, replayed, has_number, has_word, has_word_from_among, set_of_among, all_among, Bitmap, set_of, File, pair_cmp, has_from_among, file_of_record}
 use Rattle.lis_open.proofs.AxiomsRead.{axiom_fault_by}
 use Rattle.lis_open.proofs.SpotKinds.{behind}
 use Rattle.std.proofs.lemmas.List.{length-map}

@@ -1,6 +1,6 @@
 -- The numbers that the words of a file lead to are those of the words of its description.
 use Rattle.std.proofs.Common.{rules}
-use Rattle.lis_open.proofs.Common.{◌≡◌, ◌∙◌, refl, sym, ap, subst, ℕ, ◌||◌, not, Bool, true, false, List, Option, Some, None, is_some, IsSome, ◌≤◌, [], arith, slice_get, inl, inr, option_to_list, ◌++◌, length, append_assoc, flat_map, ◌+◌, ap₂, zero, suc, ◌==◌, eq-eqb, ◌<◌, ◌∷◌, ⊎_elim, nat_cmp, Among, among_map, is_taken, IsDict, number_of, word_of, number_from_word, is_plain_word, is_valued, head_bytes, among_from_has_word, Limits, is_assignable, is_nameable, bit_of, Dict, number_below, declared_there, there_declared, Pair, list_all, among_left, among_flat_map, word_from_number, FileRecord, plain_not_valued, among_set_of, own_words, met_tests, words_told, some_number, and_parts, both_ways, flat_map_among, has_word, has_word_from_among, set_of_among, all_among, set_of, File, contains_from_among, Taxonomy, no_links, has_edge, or_cases, or_left, or_right, same_Some, Chain, among_from_contains, among_from_any, Leads, AxiomSlot, FreeAxiom, head_not_valued, up, Metadata, pair_told, pairs_told, axioms_of, has_pair, placed_at, among_place, IsStrictlySortedBy, entails, word_cmp, sorted_set_of, file_words, AllApart, and_from, any_from_among, pair_cmp}
+use Rattle.lis_open.proofs.Common.{◌≡◌, ◌∙◌, refl, sym, ap, subst, ℕ, ◌||◌, not, Bool, true, false, List, Option, Some, None, is_some, IsSome, ◌≤◌, [], arith, slice_get, inl, inr, option_to_list, ◌++◌, length, append_assoc, flat_map, ap₂, zero, suc, ◌==◌, eq-eqb, ◌<◌, ◌∷◌, ⊎_elim, nat_cmp, Among, among_map, is_taken, IsDict, number_of, word_of, number_from_word, is_plain_word, is_valued, head_bytes, among_from_has_word, Limits, is_assignable, is_nameable, bit_of, Dict, number_below, declared_there, there_declared, Pair, list_all, among_left, among_flat_map, word_from_number, FileRecord, plain_not_valued, among_set_of, own_words, met_tests, words_told, some_number, and_parts, both_ways, flat_map_among, has_word, has_word_from_among, set_of_among, all_among, set_of, File, contains_from_among, Taxonomy, no_links, or_cases, or_left, or_right, same_Some, Chain, among_from_contains, among_from_any, Leads, AxiomSlot, FreeAxiom, head_not_valued, up, Metadata, pair_told, pairs_told, axioms_of, has_pair, placed_at, among_place, IsStrictlySortedBy, entails, word_cmp, sorted_set_of, file_words, AllApart, and_from, any_from_among, pair_cmp}
 use Rattle.lis_graph.proofs.Members.{among_filter, among_append, among_right, among_with_more, with_more_new}
 use Rattle.lis_dict.specs.Dict.{words as words_of}
 use Rattle.lis_dict.proofs.Laws.{number_from_among}
@@ -13,8 +13,7 @@ use Rattle.lis_open.specs.declared.axioms.Axioms.{Axioms}
 use Rattle.lis_laws.proofs.Sources.{assignable_cases}
 use Rattle.lis_laws.proofs.Sources.Assignable.{Plain, Valued}
 use Rattle.lis_model.specs.Derived.{derived_words}
-use Rattle.lis_graph.proofs.Graph.{chain_append}
-use Rattle.lis_taxonomy.specs.Taxonomy.{Entails, any_entails}
+use Rattle.lis_taxonomy.specs.Taxonomy.{any_entails}
 use Rattle.lis_kept.proofs.OwnLinks.{pair_slot}
 use Rattle.lis_kept.proofs.Entailed.{edge_of, leads_joined}
 use Rattle.lis_kept.proofs.EdgesTell.{tells_links}

@@ -1,5 +1,5 @@
 -- What was read and checked is what a store may keep.
-use Rattle.lis_open.proofs.Common.{rules, length-take, ◌≡◌, ◌∙◌, refl, sym, ap, ap₂, subst, ℕ, zero, ◌<◌, ◌≤◌, Bool, true, false, List, Option, Some, None, is_some, IsSome, slice_get, IsTrue, [], length, arith, suc, ◌+◌, ◌-◌, nat_le, ◌&&◌, ◌∷◌, map, sum, length-append, le-leb, option_to_list, flat_map, Contains, same_Some, Among, IsDict, number_of, word_of, rec_at, has, numbers_at, has_edge, FileRecord, is_prop, Pair, is_plain_word, is_valued, same_word, head_bytes, head_not_valued, same_word_decides, Limits, are_in_range, own_words, is_assignable, Metadata, property_by, AreSound, is_head_by, is_used, among_from_number, list_all, is_test, image_blocks, Held, words_told, IsSound, among_from_contains, contains_from_among, among_flat_map, is_taken, are_distinct, Dict, Filed, SpellsSuper, AxiomSlot, FreeAxiom, word_cmp, sorted_set_of, data_start, State, description, is_nameable, file_cmp, WellFormed, pair_by, pairs_told, bytes_told, blocks_told, file_told, state_of, Tells, filed_rec, filed_at_slot, Stored, and_parts, both_ways, false_from_ne_true, and_from, has_number, all_among, has_from_among, has_word, File, pair_cmp, has_word_from_among, IsWritten}
+use Rattle.lis_open.proofs.Common.{rules, length-take, ◌≡◌, ◌∙◌, refl, sym, ap, ap₂, subst, ℕ, zero, ◌<◌, ◌≤◌, Bool, true, false, List, Option, Some, None, is_some, IsSome, slice_get, IsTrue, [], length, arith, suc, ◌+◌, ◌-◌, nat_le, ◌&&◌, ◌∷◌, sum, length-append, le-leb, option_to_list, flat_map, Contains, same_Some, Among, IsDict, number_of, word_of, rec_at, has, numbers_at, FileRecord, is_prop, Pair, is_plain_word, is_valued, same_word, head_bytes, head_not_valued, same_word_decides, Limits, are_in_range, own_words, is_assignable, Metadata, property_by, AreSound, is_head_by, is_used, among_from_number, list_all, is_test, Held, words_told, IsSound, among_from_contains, contains_from_among, among_flat_map, is_taken, are_distinct, Dict, Filed, SpellsSuper, AxiomSlot, FreeAxiom, word_cmp, sorted_set_of, data_start, State, description, is_nameable, file_cmp, WellFormed, pair_by, pairs_told, bytes_told, blocks_told, file_told, state_of, Tells, filed_rec, filed_at_slot, Stored, and_parts, both_ways, false_from_ne_true, and_from, has_number, all_among, has_from_among, has_word, File, pair_cmp, has_word_from_among, IsWritten}
 use Rattle.lis_bits.proofs.Subset.{implied}
 use Rattle.lis_laws.proofs.Apart.{declarable_not_valued}
 use Rattle.lis_laws.proofs.Counts.{all_from, rising_from_sorted}

@@ -18,7 +18,7 @@ use Rattle.lis_words.specs.Words.{is_plain_word, is_valued, head_bytes, has_word
 use Rattle.lis_model.specs.declared.limits.Limits.{Limits}
 use Rattle.lis_model.specs.declared.spot.Spot.{Spot}
 use Rattle.lis_model.specs.declared.spot.Spot.TheVariants.{Super, BadRecord, Property, Axiom, File, Word, Bitmap, Row}
-use Rattle.lis_model.specs.Image.{bitmap_start, image_blocks}
+use Rattle.lis_model.specs.Image.{bitmap_start}
 use Rattle.lis_model.specs.Sets.{set_of, are_distinct, has_number}
 use Rattle.lis_model.specs.State.{Entails, file_words, known, is_assignable, is_nameable, pair_cmp}
 use Rattle.lis_kept.specs.Areas.{property_slots, axiom_slots, file_slots, row_slots}

@@ -6,7 +6,6 @@ use Rattle.lis_journal.specs.Journal.{Held, shape_of}
 use Rattle.lis_journal.specs.Images.{JournalIsUsable}
 use Rattle.lis_slots.specs.Slots.{Slots}
 use Rattle.lis_model.specs.declared.limits.Limits.{Limits}
-use Rattle.lis_model.specs.Image.{image_blocks}
 use Rattle.lis_model.specs.Ranges.{are_in_range}
 use Rattle.lis_model.specs.declared.spot.Spot.{Spot}
 use Rattle.lis_store.specs.Stored.{Stored}

@@ -50,6 +50,8 @@ class Entry:
     # When it was sent, or else changed, in seconds since 1970; and whether it is older than what is wanted of the folder.
     date: float = 0.0
     is_older: bool = False
+    # Its names, which are asked for several times, and what they are made of.
+    _made: tuple[tuple[bytes, ...], tuple[bytes, ...]] = (), ()
 
     def read_from(self, content: bytes) -> bytes:
         """Notes what its bytes give. Their digest."""
@@ -67,14 +69,22 @@ class Entry:
 
     def names(self, marker: bytes, is_lean: bool) -> list[bytes]:
         """The names that it may have in an image, the first of them where that is free. Of a lean one the program derives fewer words."""
-        if self.is_mail:
-            full = [names.of_mail(self.subject, digest) for digest in (names.digest_of(*self.ident), names.digest_of(marker, *self.ident))]
-        else:
-            full = [names.of_path(self.found.key), names.digested(self.found.key, names.digest_of(marker, *self.ident))]
+        full = self._full_names(marker)
         if not derived.has_many(full[0]):
             return full
         lean = [names.lean(name, self.is_mail) for name in full]
         return lean + full if is_lean else full + lean
+
+    def _full_names(self, marker: bytes) -> list[bytes]:
+        parts = marker, *self.ident
+        if self._made[0] != parts:
+            other = names.digest_of(*parts)
+            if self.is_mail:
+                made = [names.of_mail(self.subject, digest) for digest in (names.digest_of(*self.ident), other)]
+            else:
+                made = [names.of_path(self.found.key), names.digested(self.found.key, other)]
+            self._made = parts, tuple(made)
+        return list(self._made[1])
 
 
 def newest_first(entry: Entry) -> tuple[float, str]:

@@ -22,12 +22,12 @@ pub returns-then-not-has : goal.returns-then-not-has
 returns-then-not-has c =
     let k = c.args.metadata.now in
     let own = has_number (tags_at k c.args.slot) c.args.number in
-    let found = sym (c.has.ensures ∙ ap (is_found c.args.lost.now) c.from.ensures) ∙ c.if-not-has.true in
+    let found = sym c.has.ensures ∙ c.if-not-has.true in
     ap not c.if-not-has.true ∙ (sym (ap (λ b. not b || own) found) ∙ sym (base_by k c.args.how c.args.slot c.args.number c.args.lost.now c.requires.lost c.requires.number))
 
 pub returns-else-not-has : goal.returns-else-not-has
 returns-else-not-has c =
     let k = c.args.metadata.now in
     let own = has_number (tags_at k c.args.slot) c.args.number in
-    let found = sym (c.has.ensures ∙ ap (is_found c.args.lost.now) c.from.ensures) ∙ c.if-not-has.false in
+    let found = sym c.has.ensures ∙ c.if-not-has.false in
     c.is_given.ensures ∙ (sym (ap (λ b. not b || own) found) ∙ sym (base_by k c.args.how c.args.slot c.args.number c.args.lost.now c.requires.lost c.requires.number))

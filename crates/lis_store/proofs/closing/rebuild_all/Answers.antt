@@ -1,4 +1,4 @@
-use Rattle.lis_store.proofs.Common.{◌≡◌, ◌∙◌, ℕ, ◌<◌, List, is_some, length, sym, ap, subst, arith, has_number, word_of, Metadata, named_all, Limits, common_steps}
+use Rattle.lis_store.proofs.Common.{◌≡◌, ◌∙◌, ℕ, ◌<◌, List, is_some, length, sym, ap, subst, arith, has_number, word_of, Metadata, named_all, Limits}
 use Rattle.lis_store.specs.Closing.{rebuilt}
 use Rattle.lis_store.specs.Redescribing.{SlotHas, Redescribes}
 use Rattle.lis_store.proofs.Rebuilt.{concerned_same, closure_same, rebuilt_same, words_same_yet, same_here, redescribed_none, redescribed_more}
@@ -44,6 +44,3 @@ returns-clause-rebuilt c =
     let p = c.args.metadata.now in
     let all : c.loop-slot.slot ≡ p.limits.files = omega (arith, c.loop-slot.auto.slot-end, c.loop-slot-test.false, ap (λ (l : Limits). l.files) c.limits.ensures.value) in
     subst (λ (n : ℕ). Redescribes (rebuilt p c.args.how) n p c.loop-slot.metadata) all c.loop-slot.invariant.0
-
-pub overflow_cast-slot : goal.overflow_cast-slot
-overflow_cast-slot c = grind (arith, common_steps)

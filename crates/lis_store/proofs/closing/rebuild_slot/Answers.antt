@@ -12,17 +12,17 @@ returns-then-not-is_concerned-clause-gives c =
     inr (ap (λ b. if b then closure p (base_at p c.args.how slot) else set_of p.ext slot) (sym c.is_concerned.ensures ∙ c.if-not-is_concerned.true), refl)
 
 pub numbers-old-requires : goal.numbers-old-requires
-numbers-old-requires c = omega (arith, c.requires.slot, c.requires.sound.files, c.from.ensures, ap (λ (e : Ext). length e.sets) c.ext.ensures)
+numbers-old-requires c = omega (arith, c.requires.slot, c.requires.sound.files, ap (λ (e : Ext). length e.sets) c.ext.ensures)
 
 pub base_at-base-requires-clause-are : goal.base_at-base-requires-clause-are
 base_at-base-requires-clause-are c =
-    c.numbers-old.ensures.numbers ∙ (ap (set_of c.ext.result.now) c.from.ensures ∙ ap (λ (e : Ext). set_of e c.args.slot) c.ext.ensures)
+    c.numbers-old.ensures.numbers ∙ ap (λ (e : Ext). set_of e c.args.slot) c.ext.ensures
 
 pub base_at-base-requires-clause-numbers : goal.base_at-base-requires-clause-numbers
 base_at-base-requires-clause-numbers c =
     let p = c.args.metadata.now in
     let slot = c.args.slot in
-    let are = c.numbers-old.ensures.numbers ∙ (ap (set_of c.ext.result.now) c.from.ensures ∙ ap (λ (e : Ext). set_of e slot) c.ext.ensures) in
+    let are = c.numbers-old.ensures.numbers ∙ ap (λ (e : Ext). set_of e slot) c.ext.ensures in
     ap (list_all (λ n. is_some (word_of p.dict n))) are
     ∙ all_from (λ n. is_some (word_of p.dict n)) (set_of p.ext slot) (λ n m. c.requires.named n (number_from_among (set_of p.ext slot) n m))
 

@@ -13,12 +13,12 @@ use Rattle.lis_store.proofs.crowding.wider_count.Goals.{then-not-has, else-not-h
 use Rattle.lis_store.proofs.crowding.wider_count.Goals as goal
 
 pub numbers-own-requires : goal.numbers-own-requires
-numbers-own-requires c = omega (arith, c.requires.slot, c.requires.sound.files, c.from.ensures, ap (λ (e : Ext). length e.sets) c.ext.ensures)
+numbers-own-requires c = omega (arith, c.requires.slot, c.requires.sound.files, ap (λ (e : Ext). length e.sets) c.ext.ensures)
 
 pub has-requires : goal.has-requires
 has-requires c =
     let below = c.numbers-own.ensures.in_range c.loop-number.number-index 0 c.loop-number-test.true in
-    omega (arith, below, c.from-in-loop-number.ensures, ap (λ (e : Ext). e.props) c.ext.ensures, c.requires.sound.rows, few_properties c.args.metadata.now.limits c.requires.sound.range)
+    omega (arith, below, ap (λ (e : Ext). e.props) c.ext.ensures, c.requires.sound.rows, few_properties c.args.metadata.now.limits c.requires.sound.range)
 
 pub overflow_add-count : goal.overflow_add-count
 overflow_add-count c =
@@ -47,8 +47,8 @@ loop-number-preserved c =
     let lt = c.loop-number-test.true in
     let new : ℕ → Bool = λ n. not (is_found c.args.gained.now n) in
     elim c.if-not-has.branch [
-      | then-not-has w ↦ rw w.count-is (omega (arith, c.loop-number.invariant, count_by_more_yes new own i 0 lt (ap new (sym c.from-in-loop-number.ensures) ∙ (ap not (sym c.has.ensures) ∙ ap not w.if-not-has.true))))
-      | else-not-has w ↦ rw w.count-is (omega (arith, c.loop-number.invariant, count_by_more_no new own i 0 lt (ap new (sym c.from-in-loop-number.ensures) ∙ (ap not (sym c.has.ensures) ∙ ap not w.if-not-has.false))))
+      | then-not-has w ↦ rw w.count-is (omega (arith, c.loop-number.invariant, count_by_more_yes new own i 0 lt (ap not (sym c.has.ensures) ∙ ap not w.if-not-has.true)))
+      | else-not-has w ↦ rw w.count-is (omega (arith, c.loop-number.invariant, count_by_more_no new own i 0 lt (ap not (sym c.has.ensures) ∙ ap not w.if-not-has.false)))
     ]
 
 pub returns : goal.returns
@@ -58,7 +58,7 @@ returns c =
     let own = c.numbers-own.result.now in
     let all = take_all c.loop-number.number-index own (omega arith) in
     let same : k.ext.props ≡ c.ext.result.now.props = sym (ap (λ (e : Ext). e.props) c.ext.ensures) in
-    let set : own ≡ set_of k.ext c.args.slot = c.numbers-own.ensures.numbers ∙ (ap (set_of c.ext.result.now) c.from.ensures ∙ ap (λ (e : Ext). set_of e c.args.slot) c.ext.ensures) in
+    let set : own ≡ set_of k.ext c.args.slot = c.numbers-own.ensures.numbers ∙ ap (λ (e : Ext). set_of e c.args.slot) c.ext.ensures in
     let sum = widened c.ext.result.now.props (is_found gained) own c.numbers-own.ensures.rise c.numbers-own.ensures.in_range in
     let counted = c.requires.gained.1.count ∙ ap length (sym (found_closure k c.requires.gained.0 gained c.requires.gained.1)) in
     let found = ap (λ n. length (numbers_where n (is_found gained))) (sym c.requires.sound.rows ∙ same) in

@@ -27,7 +27,7 @@ meet-requires c =
     let e : List ℕ × ℕ = (c.in-Some.word, c.in-Some.number) in
     let at : slice_get k.dict.entries c.loop-k.k ≡ Some e = sym c.word_at.ensures ∙ c.in-Some.is in
     let there = number_from_among k.dict sound.dict e.0 e.1 (among_place k.dict.entries c.loop-k.k e at) in
-    omega (arith, c.from.ensures, number_few k sound e.0 c.loop-k.search e.1 there)
+    omega (arith, number_few k sound e.0 c.loop-k.search e.1 there)
 
 pub loop-k-preserved : goal.loop-k-preserved
 loop-k-preserved c =
@@ -43,7 +43,7 @@ loop-k-preserved c =
     elim c.if-is_met_word.branch [
       | then-is_met_word w ↦
           let Q : List (List ℕ) → Type 0 = λ ws. FindsWords k ws old w.meet.new.self in
-          let one = subst (λ found_now. FindsWords k (e.0 ∷ []) found found_now) (sym w.meet.ensures) (finds_known k sound e.0 found w.from.result (there ∙ ap Some (sym w.from.ensures))) in
+          let one = subst (λ found_now. FindsWords k (e.0 ∷ []) found found_now) (sym w.meet.ensures) (finds_known k sound e.0 found e.1 there) in
           let next = subst Q (sym (met_next k size i e at (sym c.is_met_word.ensures ∙ w.if-is_met_word.true)))
           (finds_both k (met_first k size i) (e.0 ∷ []) old found w.meet.new.self c.loop-k.invariant one) in
           subst (λ now. FindsWords k (met_first k size (i + 1)) old now) (sym w.search-is) next

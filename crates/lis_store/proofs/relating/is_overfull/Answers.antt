@@ -4,4 +4,4 @@ use Rattle.lis_store.proofs.relating.is_overfull.Goals as goal
 pub has-requires-clause-prop : goal.has-requires-clause-prop
 has-requires-clause-prop c =
     let sound = c.requires.sound in
-    omega (arith, c.from.ensures, named_below c.args.metadata.now sound c.args.left c.requires.left, sound.rows, ap (λ (e : Ext). e.props) c.ext.ensures)
+    omega (arith, named_below c.args.metadata.now sound c.args.left c.requires.left, sound.rows, ap (λ (e : Ext). e.props) c.ext.ensures)

@@ -1,4 +1,4 @@
-use Rattle.lis_store.proofs.Common.{◌≡◌, ℕ, ◌<◌, List, length, ap, subst, arith, Limits, common_steps}
+use Rattle.lis_store.proofs.Common.{◌≡◌, ℕ, ◌<◌, List, length, ap, subst, arith, Limits}
 use Rattle.lis_store.specs.Redescribing.{SlotHas, Redescribes}
 use Rattle.lis_store.specs.Testing.{without_number}
 use Rattle.lis_store.proofs.Rebuilt.{redescribed_more}
@@ -22,6 +22,3 @@ returns-clause-redescribes c =
     let p = c.args.metadata.now in
     let all : c.loop-slot.slot ≡ p.limits.files = omega (arith, c.loop-slot.auto.slot-end, c.loop-slot-test.false, ap (λ (l : Limits). l.files) c.limits.ensures.value) in
     subst (λ (n : ℕ). Redescribes (without_number p c.args.number) n p c.loop-slot.metadata) all c.loop-slot.invariant.0
-
-pub overflow_cast-slot : goal.overflow_cast-slot
-overflow_cast-slot c = grind (arith, common_steps)
