@@ -38,5 +38,4 @@ returns-in-Err-clause-disk g c = record {
 pub returns-in-Err-clause-ended : goal.returns-in-Err-clause-ended
 returns-in-Err-clause-ended g c = λ kept fits recalls passed.
     let fits1 = fits_after c.args.journal.now kept c.read_slots.ensures.disk.reads fits in
-    rw c.check_parts.ensures.same
-    (c.in-Err.ensures.ended kept fits1 (c.in_ok-files.ensures.recalls kept fits recalls) (c.in_ok-files.ensures.ended kept fits recalls passed))
+    c.in-Err.ensures.ended kept fits1 (c.in_ok-files.ensures.recalls kept fits recalls) (c.in_ok-files.ensures.ended kept fits recalls passed)
