@@ -70,6 +70,12 @@ module _ (records : Records) (slot : ℕ) (now : Option FileRecord) where
     counted_after : count_by is_some (set records slot now) + cond (is_some (get_or records slot None)) 1 0 ≡ count_by is_some records + cond (is_some now) 1 0
     counted_after = sum_by-set (λ (held : Option FileRecord). cond (is_some held) 1 0) records slot now None lt
 
+-- a slot without a record leaves room for one
+pub some_room : (records : Records) (slot : ℕ) → slot < length records → get_or records slot None ≡ None → count_by is_some records < length records
+some_room records slot lt free =
+    let nothing = ap {B = ℕ} (λ (held : Option FileRecord). cond (is_some held) 1 0) free in
+    omega (arith, counted_after records slot (Some no_record) lt, nothing, count_by-le-length is_some (set records slot (Some no_record)), length-set records slot (Some no_record))
+
 -- ---- the order, with one more slot and with one fewer
 module _ (v : ℕ → Filed) where
   map_insert : (order : List ℕ) (k slot : ℕ) → map v (insert order k slot) ≡ insert (map v order) k (v slot)
@@ -106,7 +112,7 @@ fits_from c files records order slot rec name k seen named place within form bel
 })
 
 -- ---- the order of what is seen
-told_order : (records : Records) (ns : List ℕ) → map (λ (f : Filed). f.slot) (map (filed_in records) ns) ≡ ns
+pub told_order : (records : Records) (ns : List ℕ) → map (λ (f : Filed). f.slot) (map (filed_in records) ns) ≡ ns
 told_order records [] = refl
 told_order records (n ∷ ns) = ap (λ ms. n ∷ ms) (told_order records ns)
 
@@ -196,7 +202,7 @@ module _ (files room : ℕ) (records : Records) (order : List ℕ) (h : IsHeld f
         omega (arith, counted_after records slot (Some rec) put_within, nothing, h.counted)
 
     pub room_left : length order < files
-    room_left = omega (arith, counted_more, count_by-le-length is_some (set records slot (Some rec)), length-set records slot (Some rec), h.long)
+    room_left = omega (arith, some_room records slot put_within (h.told slot ∙ fits.free), h.counted, h.long)
 
     put_catalog : IsCatalog (record { files = files; entries = insert es k f })
     put_catalog = record {

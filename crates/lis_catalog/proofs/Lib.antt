@@ -3,3 +3,6 @@ mod Places
 pub mod Slots
 pub mod Laws
 mod Held
+mod Passes
+mod Repeats
+mod Sorting

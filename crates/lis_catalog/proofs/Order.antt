@@ -15,7 +15,7 @@ use Rattle.lis_graph.proofs.Sets.{sorted_from_rising, below_tail, sorted_tail}
 use Rattle.lis_words.specs.Words.{word_cmp, same_word}
 use Rattle.lis_catalog.specs.Catalog.{Filed, filed_cmp}
 
-word_order : IsTotalOrder word_cmp
+pub word_order : IsTotalOrder word_cmp
 word_order = nat_list_cmp_total
 
 pub word_exact : CmpEqualImpliesEq word_cmp

@@ -1,11 +1,11 @@
-ghost use Rattle.std.specs.Prelude.{◌≡◌, ◌<◌, [], length, None, Some, is_none, replicate, slice_get, slice_index_or, position, IsTrue, IsSome, IfSome, IfNone, IfOk, MatchOption, MatchResult};
+ghost use Rattle.std.specs.Prelude.{◌≡◌, ◌<◌, [], length, None, Some, is_none, is_some, vec_capacity, replicate, slice_get, slice_index_or, position, IsTrue, IsSome, IfSome, IfNone, IfOk, MatchOption, MatchResult};
 ghost use Rattle.std.specs.Option.{option_map};
 ghost use Rattle.std.specs.List.Sorted.{IsSearchInRange};
 ghost use Rattle.lis_words.specs.Words.{is_file_name};
 ghost use Rattle.lis_model.specs.Ranges.{is_files_limit};
 ghost use Rattle.lis_catalog.specs.Catalog.{Filed, slots, slot_of, rec_at, with_filed, without_slot, IsCatalog};
 ghost use Rattle.lis_catalog.specs.Calls.{Adds, Replaces};
-ghost use Rattle.lis_catalog.specs.Inside.{record_in, FoundAt, PlaceFor};
+ghost use Rattle.lis_catalog.specs.Inside.{name_in, catalog_of, IsHeld, FoundAt, PlaceFor};
 
 use lis_fields::FileRec;
 use lis_words::Name;
@@ -53,8 +53,9 @@ fn record_at(records: &[Option<FileRec>], slot: u32) -> Option<&FileRec>
 }
 
 // The name of the file in the slot, or no bytes.
-fn name_at(records: &[Option<FileRec>], slot: u32) -> &[u8]
-    ensures { result.now ≡ (record_in records.now slot).name }
+pub(crate) fn name_at(records: &[Option<FileRec>], slot: u32) -> &[u8]
+    ensures bytes { result.now ≡ name_in records.now slot }
+    ensures name { IsTrue (is_some (slice_index_or records.now slot None)) → IsTrue (is_file_name result.now) }
 {
     match record_at(records, slot) {
         Some(rec) => rec.name.bytes(),
@@ -69,7 +70,7 @@ fn free_slot(records: &[Option<FileRec>]) -> Option<usize>
     records.iter().position(|held| held.is_none())
 }
 
-fn all_free(alloc: Global, files: u32) -> Result<Vec<Option<FileRec>>, AllocError>
+pub(crate) fn all_free(alloc: Global, files: u32) -> Result<Vec<Option<FileRec>>, AllocError>
     ensures { IfOk result (λ records. records.items ≡ replicate files None) }
 {
     let mut records = Vec::with_capacity(alloc, files as usize)?;
@@ -80,6 +81,18 @@ fn all_free(alloc: Global, files: u32) -> Result<Vec<Option<FileRec>>, AllocErro
 }
 
 impl Catalog {
+    // The catalog of these records by slot, whose slots stand in the order of their names.
+    pub(crate) fn of_parts(records: Vec<Option<FileRec>>, order: Vec<u32>) -> Catalog
+        requires { IsHeld (length records.items) records.items order.items (vec_capacity order) }
+        ensures { result ≡ catalog_of (length records.items) records.items order.items }
+    {
+        Catalog {
+            files: records.len() as u32,
+            records,
+            order,
+        }
+    }
+
     /// A catalog without files, with `files` slots.
     pub fn new(alloc: Global, files: u32) -> Result<Catalog, AllocError>
         requires { IsTrue (is_files_limit files) }

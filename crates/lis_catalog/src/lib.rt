@@ -2,5 +2,7 @@
 #![tactic(auto)]
 
 mod catalog;
+mod unsorted;
 
 pub use catalog::{Catalog, CatalogFault};
+pub use unsorted::Unsorted;

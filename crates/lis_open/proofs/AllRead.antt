@@ -1,6 +1,6 @@
 -- The contents of the slots that were read, and the state that they spell.
 pub use Rattle.lis_open.specs.ReadAll.{HasRead}
-use Rattle.std.proofs.Common.{◌≢◌}
+use Rattle.std.proofs.Common.{◌≢◌, IfOk}
 use Rattle.lis_open.proofs.Common.{rules, ◌≡◌, ◌∙◌, refl, sym, ap, ap₂, subst, inl, inr, ℕ, Bool, true, List, [], map, Option, Some, None, slice_get, IsTrue, arith, ◌+◌, ◌/◌, ◌<◌, ◌≤◌, not, false, is_some, replicate, Result, Ok, Err, IfSome, OnOk, ⊎_elim, fold, eq-eqb, insert_key, Among, contains_from_among, among_map, map_among, among_flat_map, IsDict, word_of, number_from_word, Filed, rec_at, has, numbers_at, FileRecord, file_bytes, is_file, Pair, FileSlot, word_cmp, is_valued, same_word, head_bytes, same_word_decides, Limits, State, file_cmp, description, known, Metadata, record_at, axiom_slots, file_slots, bit_of, words_told, file_told, state_of, is_head_by, is_used, among_from_number, filed_rec, filed_at_slot, declared_there, there_declared, Contents, AreSlots, all_records, spelled_state, contents_of, cases_eq, cases_lt, length-replicate, bits_bytes, is_taken, has_bit, FreeFile, among_from_has_word, Spot, Word, Row, are_in_range, bitmap_start, data_start, row_slots, AreSound, word_at, is_had_by, row_bit, and_parts, and_from, both_ways, false_from_ne_true, flat_map_among, File, has_from_among, file_of_record, not_true, zeros, has_word, has_word_from_among, Bitmap, or_left, list_any, is_left_of, is_left_head_of, any_from_among, among_place, cases_Bool}
 use Rattle.std.specs.List.{range_with_len}
 use Rattle.std.proofs.lemmas.List.FromFn.{length-map-range_with_len, get_or-map-range_with_len}
@@ -19,7 +19,9 @@ use Rattle.lis_open.specs.declared.words.Words.{Words}
 use Rattle.lis_open.specs.declared.axioms.Axioms.{Axioms}
 use Rattle.lis_open.specs.declared.files.Files.{Files}
 use Rattle.lis_open.specs.Checks.{AreContents, IsUsed, WordFails, BitFails, RowFault, RowFails, Fails, rank}
-use Rattle.lis_open.specs.ReadAll.{metadata_in, AreNoMarks, is_stray, IsFirstStray, IsRowSpelled, IsFirstRow, row_place, AreRead, HasStray, Differs, RowsChecked, PartsEnded}
+use Rattle.lis_open.specs.ReadWords.{AreFirstWords, AreFirstAxioms, WordsAreSpelled, AxiomsAreSpelled}
+use Rattle.lis_open.specs.ReadFiles.{in_catalog, AreFiles, FilesEnded}
+use Rattle.lis_open.specs.ReadAll.{metadata_in, AreNoMarks, is_stray, IsFirstStray, IsRowSpelled, IsFirstRow, row_place, AreSlotsRead, SlotsEnded, AreRead, HasStray, Differs, RowsChecked, PartsEnded}
 use Rattle.lis_open.proofs.Once.{rising_map}
 use Rattle.lis_open.proofs.Descriptions.{told_among, among_told, one_number, pair_among, among_pair, Sides, sides}
 use Rattle.lis_open.proofs.FilesRead.{file_is, slot_read, used_is, rec_is}
@@ -35,8 +37,11 @@ use Rattle.lis_kept.specs.Rows.{row_bytes}
 use Rattle.lis_kept.proofs.Formed.{some_word}
 use Rattle.lis_kept.proofs.Known.{number_told}
 use Rattle.lis_open.specs.Checks.RowFault.{RowWrong, RestNotZero}
-use Rattle.lis_ports.specs.Calls.{Rose}
-use Rattle.lis_open.specs.Reading.{IsFirst, IsFirstOfAll, HasPartCause, Recalls, KindFails, PartsFail}
+use Rattle.lis_ports.specs.Calls.{Rose, OnlyReads, DiskFaultEnds}
+use Rattle.lis_ports.specs.Meaning.{Meaning}
+use Rattle.lis_ports.proofs.Ending.{ends_then}
+use Rattle.lis_ports.proofs.OnlyReading.{reads_then}
+use Rattle.lis_open.specs.Reading.{IsFirst, IsFirstOfAll, Passes, HasPartCause, ReadsPart, Recalls, KindFails, PartsFail}
 use Rattle.lis_open.proofs.Damage.{one_contents}
 use Rattle.lis_open.proofs.SpotKinds.{none_before, none_fails}
 use Rattle.lis_open.proofs.Lefts.{no_file_has, row_place_is}
@@ -78,7 +83,7 @@ module _ (limits : Limits) (at : ℕ → List ℕ) (words : Words) (axioms : Axi
     count = length-map-range_with_len (record_at files.catalog) 0 limits.files;
     each = λ n value is.
         let given = given_at (record_at files.catalog) limits.files n value is in
-        let there = file_is limits words axioms files limits.files read.words_are read.axioms_are read.files_are at read.properties read.pairs read.records.spelled n given.0 given.0 in
+        let there = file_is limits words axioms (in_catalog files) limits.files read.words_are read.axioms_are read.files_are.taken at read.properties read.pairs read.records.spelled n given.0 given.0 in
         (there.bytes ∙ ap file_bytes given.1, subst (λ x. IsTrue (is_file limits.version x)) given.1 there.range);
   }
 
@@ -99,7 +104,7 @@ module _ (limits : Limits) (at : ℕ → List ℕ) (words : Words) (axioms : Axi
   record_there : (f : Filed) → Among files.catalog.entries f → Among records f.rec
   record_there f m =
       let is = filed_rec files.catalog read.files_are.catalog f m in
-      let lt = slot_read limits words axioms files limits.files read.words_are read.axioms_are read.files_are f.slot f.rec is in
+      let lt = slot_read limits words axioms (in_catalog files) limits.files read.words_are read.axioms_are read.files_are.taken f.slot f.rec is in
       flat_map_among records_in contents.files (record_at files.catalog f.slot) f.rec (map_among (record_at files.catalog) slots f.slot (range_among 0 limits.files f.slot (omega arith) (omega arith)))
       (subst (λ o. Among (records_in (file_by o)) f.rec) (sym is) (inl refl))
 
@@ -140,7 +145,7 @@ module _ (limits : Limits) (at : ℕ → List ℕ) (words : Words) (axioms : Axi
 
   module _ (n : ℕ) (w : List ℕ) (is : word_of words.dict n ≡ Some w) where
     had : (slot : ℕ) (o : Option FileRecord) → rec_at files.catalog slot ≡ o → has files.ext n slot ≡ true → Among (known s) w
-    had slot None none h = absurd (both_ways (has files.ext n slot) (slots_without limits words axioms files limits.files read.files_are slot none n) h)
+    had slot None none h = absurd (both_ways (has files.ext n slot) (slots_without limits words axioms files read.files_are slot none n) h)
     had slot (Some rec) there h =
         let f : Filed = record { slot = slot; rec = rec } in
         let m = filed_at_slot files.catalog read.files_are.catalog slot rec there in
@@ -262,17 +267,17 @@ module _ (limits : Limits) (at : ℕ → List ℕ) (words : Words) (axioms : Axi
   -- ---- the bitmap
   used_taken : (n : ℕ) → IsUsed limits at n → is_taken files.map n ≡ true
   used_taken n used =
-      let rec = rec_is limits words axioms files limits.files read.words_are read.axioms_are read.files_are at read.properties read.pairs read.records.spelled used.slot used.rec used.is.below used.is in
+      let rec = rec_is limits words axioms (in_catalog files) limits.files read.words_are read.axioms_are read.files_are.taken at read.properties read.pairs read.records.spelled used.slot used.rec used.is.below used.is in
       read.records.blocks.taken used.slot used.rec n rec used.has
 
   taken_used : (n : ℕ) → is_taken files.map n ≡ true → IsUsed limits at n
   taken_used n taken =
       let owner = read.records.blocks.in_use n taken in
-      let lt = slot_read limits words axioms files limits.files read.words_are read.axioms_are read.files_are owner.0 owner.1 owner.2 in
+      let lt = slot_read limits words axioms (in_catalog files) limits.files read.words_are read.axioms_are read.files_are.taken owner.0 owner.1 owner.2 in
       record {
         slot = owner.0;
         rec = owner.1;
-        is = used_is limits words axioms files limits.files read.words_are read.axioms_are read.files_are at read.properties read.pairs read.records.spelled owner.0 owner.1 lt owner.2;
+        is = used_is limits words axioms (in_catalog files) limits.files read.words_are read.axioms_are read.files_are.taken at read.properties read.pairs read.records.spelled owner.0 owner.1 lt owner.2;
         has = owner.3;
       }
 
@@ -312,7 +317,7 @@ module _ (limits : Limits) (at : ℕ → List ℕ) (words : Words) (axioms : Axi
         by : (o : Option (List ℕ)) (r : Option FileRecord) → word_of words.dict p ≡ o → rec_at files.catalog i ≡ r
             → has files.ext p i ≡ is_had_by held_state (file_of_record limits held_contents.properties at) (word_of words.dict p) (file_by (rec_at files.catalog i))
         by o None is none =
-            slots_without limits words axioms files limits.files read.files_are i none p
+            slots_without limits words axioms files read.files_are i none p
             ∙ sym (ap (λ r. is_had_by held_state (file_of_record limits held_contents.properties at) (word_of words.dict p) (file_by r)) none ∙ nothing (word_of words.dict p))
         by None (Some rec) is there =
             false_from_ne_true (has files.ext p i) (λ h. both_ways (is_some (word_of words.dict p)) (ap is_some is) (named limits words axioms files (no_marks limits) all_read p i h))
@@ -327,12 +332,12 @@ module _ (limits : Limits) (at : ℕ → List ℕ) (words : Words) (axioms : Axi
 
     row_is : (p : ℕ) → row_bytes files.ext p ≡ bits_bytes (limits.files / 8) (row_bit (spelled_state limits held_contents at) limits held_contents at p)
     row_is p =
-        ap (λ n. bits_bytes (n / 8) (has files.ext p)) read.files_are.count
+        ap (λ n. bits_bytes (n / 8) (has files.ext p)) read.files_are.taken.count
         ∙ (bytes_same (limits.files / 8) (has files.ext p) (row_bit held_state limits held_contents at p) (λ i small. bit_is p i (omega (arith, small)))
         ∙ ap (λ (t : State). bits_bytes (limits.files / 8) (row_bit t limits held_contents at p)) (sym (state_read limits at words axioms files (no_marks limits) read)))
 
     rest_is : (p : ℕ) → limits.props ≤ p → row_bytes files.ext p ≡ zeros (limits.files / 8)
-    rest_is p past = no_file_has files.ext limits.files p read.files_are.count (λ slot. none_past limits words axioms files (no_marks limits) all_read p slot past)
+    rest_is p past = no_file_has files.ext limits.files p read.files_are.taken.count (λ slot. none_past limits words axioms files (no_marks limits) all_read p slot past)
 
     row_passes : (m : ℕ) → m < limits.props → IsRowSpelled limits at files.ext m → RowFails limits at m → ⊥
     row_passes m below spelled fails =
@@ -364,6 +369,23 @@ kind_failed limits at kind (TooShort len need) below fails = fails
 kind_failed limits at kind (Damaged spot) below fails = first_of_all limits at kind spot below fails
 kind_failed limits at kind DiskFault below fails = tt
 kind_failed limits at kind NoMemory below fails = fails
+
+-- the slots, after those of words and axioms
+module _ (limits : Limits) (words : Words) (axioms : Axioms) (words_are : AreFirstWords limits words limits.props) (axioms_are : AreFirstAxioms limits words axioms (axiom_slots limits).count) where
+  pub files_read : (result : Result Files OpenFault) → IfOk result (λ files. AreFiles limits words axioms files) → IfOk result (λ files. AreSlotsRead limits words axioms files)
+  files_read (Ok files) read = record { words_are = words_are; axioms_are = axioms_are; files_are = read }
+  files_read (Err fault) read = tt
+
+  module _ (at : ℕ → List ℕ) (properties : Passes limits at 2 (WordsAreSpelled limits at words limits.props)) (pairs : Passes limits at 3 (AxiomsAreSpelled limits at axioms (axiom_slots limits).count)) where
+    pass_pairs : PassBelow limits at 4
+    pass_pairs = pass_more limits at 3 (pass_more limits at 2 (none_below limits at) properties.none) pairs.none
+
+    pub files_ended : (result : Result Files OpenFault) → IfOk result (λ files. AreFiles limits words axioms files) → FilesEnded limits at words axioms result → SlotsEnded limits at words axioms result
+    files_ended (Ok files) read ended = record {
+      read = record { words_are = words_are; axioms_are = axioms_are; files_are = read; properties = properties.is; pairs = pairs.is; records = ended.is };
+      none = pass_more limits at 4 pass_pairs ended.none;
+    }
+    files_ended (Err fault) read ended = kind_failed limits at 4 fault pass_pairs ended
 
 module _ (limits : Limits) (at : ℕ → List ℕ) (words : Words) (axioms : Axioms) (files : Files) (read : HasRead limits at words axioms files) (below : PassBelow limits at 5) where
   abbrev unmarked : List Bool
@@ -407,6 +429,14 @@ none_recalled last kept none = subst (λ o. IfSome o (λ n. last.bytes ≡ kept 
 pub on_ok : {T E P : Type 0} (r : Result T E) → P → OnOk r P
 on_ok (Ok done) holds = holds
 on_ok (Err fault) holds = tt
+
+-- a reader, after one that ended well
+pub reads_after : {T : Type 0} (old between new : Meaning) (result : Result T OpenFault) → OnlyReads old between → between.disk_faults ≡ old.disk_faults → DiskFaultEnds old between → ReadsPart between new result → ReadsPart old new result
+reads_after old between new result reads same first_fault later = record {
+  reads = reads_then reads later.reads;
+  cause = subst (λ n. HasPartCause n new.disk_faults result) same later.cause;
+  first_fault = ends_then first_fault same later.first_fault;
+}
 
 -- ---- causes
 -- of a reader, after one that ended well

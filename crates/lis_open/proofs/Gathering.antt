@@ -3,7 +3,7 @@
 use Rattle.std.proofs.Common.{rules}
 pub use Rattle.lis_open.specs.ReadFiles.{Gathered}
 use Rattle.std.proofs.Common.{All}
-use Rattle.lis_open.proofs.Common.{◌≡◌, ℕ, ◌<◌, ◌||◌, Option, Some, None, List, [], ◌∷◌, ◌++◌, get_or, ⊎_elim, ◌==◌, refl, sym, ap, ◌∙◌, subst, arith, ◌+◌, nat_le, nat_lt, true, false, ◌&&◌, option_to_list, length, take, ◌≤◌, Bool, not, is_some, slice_get, le-leb, ltb-true, or-false, IsTrue, Among, all_among, among_flat_map, among_from_contains, has_number, Taxonomy, list_all, list_all-append, number_below, number_of, FileRecord, or_left, IsDict, is_valued, head_bytes, met_tests, Metadata, bit_of, and_from, both_ways, nat_cmp}
+use Rattle.lis_open.proofs.Common.{◌≡◌, ℕ, ◌<◌, ◌||◌, Option, Some, None, List, [], ◌∷◌, ◌++◌, get_or, ⊎_elim, ◌==◌, refl, sym, ap, ◌∙◌, subst, arith, ◌+◌, nat_le, nat_lt, true, false, ◌&&◌, option_to_list, length, take, ◌≤◌, Bool, not, is_some, slice_get, le-leb, ltb-true, or-false, IsTrue, Among, all_among, among_flat_map, among_from_contains, has_number, Taxonomy, list_all, list_all-append, number_below, number_of, FileRecord, or_left, IsDict, is_valued, head_bytes, met_tests, Metadata, bit_of, and_from, nat_cmp}
 use Rattle.std.specs.List.Sorted.{IsStrictlyIncreasing}
 use Rattle.std.proofs.Math.Bool.{or_assoc, and-true}
 use Rattle.std.proofs.lemmas.List.Elements.{Contains-get_or}
@@ -23,7 +23,6 @@ use Rattle.std.proofs.lemmas.Grind.{flat_map-append}
 use Rattle.std.proofs.lemmas.List.{take_more}
 use Rattle.lis_open.specs.declared.words.Words.{Words}
 use Rattle.lis_graph.proofs.Members.{among_filter, among_append}
-use Rattle.lis_words.specs.declared.test.Test.{Test}
 use Rattle.lis_words.specs.Words.{test_of}
 use Rattle.lis_laws.proofs.Apart.{test_not_valued}
 use Rattle.lis_laws.proofs.Counts.{all_from}

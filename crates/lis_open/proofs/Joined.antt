@@ -1,5 +1,5 @@
 -- What was read and checked is what a store may keep.
-use Rattle.lis_open.proofs.Common.{rules, length-take, ◌≡◌, ◌∙◌, refl, sym, ap, ap₂, subst, ℕ, zero, ◌<◌, ◌≤◌, Bool, true, false, List, Option, Some, None, is_some, IsSome, slice_get, IsTrue, [], length, arith, suc, ◌+◌, ◌-◌, nat_le, ◌&&◌, ◌∷◌, map, sum, length-append, le-leb, option_to_list, flat_map, Contains, same_Some, Among, IsDict, number_of, word_of, rec_at, has, numbers_at, has_edge, FileRecord, is_prop, Pair, is_plain_word, is_valued, same_word, head_bytes, head_not_valued, same_word_decides, Limits, are_in_range, own_words, is_assignable, Metadata, property_by, AreSound, is_head_by, is_used, among_from_number, list_all, is_test, image_blocks, Held, words_told, IsSound, among_from_contains, contains_from_among, among_flat_map, is_taken, are_distinct, Dict, Filed, SpellsSuper, AxiomSlot, FreeAxiom, word_cmp, sorted_set_of, data_start, State, description, is_nameable, file_cmp, WellFormed, pair_by, pairs_told, bytes_told, blocks_told, file_told, state_of, Tells, filed_rec, filed_at_slot, Stored, and_parts, both_ways, false_from_ne_true, and_from, has_number, all_among, has_from_among, has_word, File, pair_cmp, has_word_from_among, IsWritten}
+use Rattle.lis_open.proofs.Common.{rules, length-take, ◌≡◌, ◌∙◌, refl, sym, ap, ap₂, subst, ℕ, zero, ◌<◌, ◌≤◌, Bool, true, false, List, Option, Some, None, is_some, IsSome, slice_get, IsTrue, [], length, arith, suc, ◌+◌, ◌-◌, nat_le, ◌&&◌, ◌∷◌, sum, length-append, le-leb, option_to_list, flat_map, Contains, same_Some, Among, IsDict, number_of, word_of, rec_at, has, numbers_at, FileRecord, is_prop, Pair, is_plain_word, is_valued, same_word, head_bytes, head_not_valued, same_word_decides, Limits, are_in_range, own_words, is_assignable, Metadata, property_by, AreSound, is_head_by, is_used, among_from_number, list_all, is_test, Held, words_told, IsSound, among_from_contains, contains_from_among, among_flat_map, is_taken, are_distinct, Dict, Filed, SpellsSuper, AxiomSlot, FreeAxiom, word_cmp, sorted_set_of, data_start, State, description, is_nameable, file_cmp, WellFormed, pair_by, pairs_told, bytes_told, blocks_told, file_told, state_of, Tells, filed_rec, filed_at_slot, Stored, and_parts, both_ways, false_from_ne_true, and_from, has_number, all_among, has_from_among, has_word, File, pair_cmp, has_word_from_among, IsWritten}
 use Rattle.lis_bits.proofs.Subset.{implied}
 use Rattle.lis_laws.proofs.Apart.{declarable_not_valued}
 use Rattle.lis_laws.proofs.Counts.{all_from, rising_from_sorted}
@@ -14,7 +14,7 @@ use Rattle.lis_open.specs.declared.words.Words.{Words}
 use Rattle.lis_open.specs.declared.axioms.Axioms.{Axioms}
 use Rattle.lis_open.specs.declared.files.Files.{Files}
 use Rattle.lis_open.specs.ReadWords.{declared_words, kept_words}
-use Rattle.lis_open.specs.ReadFiles.{described, found_words, own_numbers, HasSomeNumbers, AreNumbers, is_assignable_number, AreFirstFiles}
+use Rattle.lis_open.specs.ReadFiles.{described, found_words, own_numbers, HasSomeNumbers, AreNumbers, is_assignable_number, AreFiles}
 use Rattle.lis_open.specs.ReadAll.{AreNoMarks, metadata_in, AreRead, AreSpelled, StoreTells}
 use Rattle.lis_open.proofs.Descriptions.{Sides, sides, assignable_word, some_from, declared_flagged, IsNumbered, AreOf, file_with, tag_owned, left_numbered, entailed, word_below, leads_there, described_on, file_are, told_among, among_told, told_are}
 use Rattle.lis_kept.proofs.Used.{WhyUsed, why_used}
@@ -46,15 +46,15 @@ use Rattle.lis_store.proofs.Relates.{told_few}
 use Rattle.lis_open.proofs.Once.{few_below, more_le, sum_within, rising_map}
 
 -- ---- files by their slots
-module _ (limits : Limits) (words : Words) (axioms : Axioms) (files : Files) (end : ℕ) (first : AreFirstFiles limits words axioms files end) where
+module _ (limits : Limits) (words : Words) (axioms : Axioms) (files : Files) (first : AreFiles limits words axioms files) where
   pub slot_numbers : (slot : ℕ) (rec : FileRecord) → rec_at files.catalog slot ≡ Some rec → HasSomeNumbers words axioms.taxonomy rec (numbers_at files.ext slot)
-  slot_numbers slot rec is = subst (λ o. AreNumbers words axioms.taxonomy o (numbers_at files.ext slot)) is (first.sets slot)
+  slot_numbers slot rec is = subst (λ o. AreNumbers words axioms.taxonomy o (numbers_at files.ext slot)) is (first.taken.sets slot)
 
   pub given_word : (slot tag : ℕ) (rec : FileRecord) → rec_at files.catalog slot ≡ Some rec → Among rec.tags tag → (w : List ℕ) × (word_of words.dict tag ≡ Some w) × (is_assignable (declared_words words) w ≡ true)
-  given_word slot tag rec is m = assignable_word words (word_of words.dict tag) (all_among (is_assignable_number words) rec.tags tag (first.given slot rec is) m)
+  given_word slot tag rec is m = assignable_word words (word_of words.dict tag) (all_among (is_assignable_number words) rec.tags tag (first.taken.given slot rec is) m)
 
   pub slots_without : (slot : ℕ) → rec_at files.catalog slot ≡ None → (n : ℕ) → has files.ext n slot ≡ false
-  slots_without slot none n = ap (λ ns. has_number ns n) (subst (λ o. AreNumbers words axioms.taxonomy o (numbers_at files.ext slot)) none (first.sets slot))
+  slots_without slot none n = ap (λ ns. has_number ns n) (subst (λ o. AreNumbers words axioms.taxonomy o (numbers_at files.ext slot)) none (first.taken.sets slot))
 
 -- ---- all parts
 module _ (limits : Limits) (words : Words) (axioms : Axioms) (files : Files) (marks : List Bool) (read : AreRead limits words axioms files marks) where
@@ -73,13 +73,13 @@ module _ (limits : Limits) (words : Words) (axioms : Axioms) (files : Files) (ma
   -- ---- the numbers of a slot
   module _ (slot : ℕ) (rec : FileRecord) (there : rec_at files.catalog slot ≡ Some rec) where
     abbrev of : HasSomeNumbers words axioms.taxonomy rec (numbers_at files.ext slot)
-    of = slot_numbers limits words axioms files limits.files read.files_are slot rec there
+    of = slot_numbers limits words axioms files read.files_are slot rec there
 
     -- they are those of the words of its file
     pub slot_are : AreOf words (numbers_at files.ext slot) (entailed limits words axioms _ read.words_are read.axioms_are (own_words (declared_words words) (file_with words rec of.bytes)))
     slot_are =
         subst (λ ns. AreOf words ns (entailed limits words axioms _ read.words_are read.axioms_are (own_words (declared_words words) (file_with words rec of.bytes)))) (sym of.has.are)
-        (file_are limits words axioms _ read.words_are read.axioms_are rec of.bytes (read.files_are.given slot rec there) of.has.numbered)
+        (file_are limits words axioms _ read.words_are read.axioms_are rec of.bytes (read.files_are.taken.given slot rec there) of.has.numbered)
 
     abbrev own : List ℕ
     own = own_numbers words.dict rec.tags (found_words words rec.name of.bytes)
@@ -90,7 +90,7 @@ module _ (limits : Limits) (words : Words) (axioms : Axioms) (files : Files) (ma
     tag_had : (n : ℕ) → has_number rec.tags n ≡ true → has files.ext n slot ≡ true
     tag_had n tag =
         let m = among_from_number rec.tags n tag in
-        let w = given_word limits words axioms files limits.files read.files_are slot n rec there m in
+        let w = given_word limits words axioms files read.files_are slot n rec there m in
         described_has n (leads_there limits words axioms _ read.words_are read.axioms_are own n n (tag_owned limits words dict rec of.bytes n m) (zero, refl) (word_below limits words axioms _ read.words_are read.axioms_are n w.0 w.1))
 
     had_on : (p q : ℕ) → has files.ext p slot ≡ true → is_linked (kept_words limits words axioms.slots.items) p q ≡ true → has files.ext q slot ≡ true
@@ -102,7 +102,7 @@ module _ (limits : Limits) (words : Words) (axioms : Axioms) (files : Files) (ma
   -- a number of a description has a file, and a word
   had_by : (n slot : ℕ) → has files.ext n slot ≡ true → (rec : FileRecord) × (rec_at files.catalog slot ≡ Some rec)
   had_by n slot h = (elim (rec_at files.catalog slot) as (λ o. rec_at files.catalog slot ≡ o → (rec : FileRecord) × (rec_at files.catalog slot ≡ Some rec)) [
-    | None ↦ λ none. absurd (both_ways (has files.ext n slot) (slots_without limits words axioms files limits.files read.files_are slot none n) h)
+    | None ↦ λ none. absurd (both_ways (has files.ext n slot) (slots_without limits words axioms files read.files_are slot none n) h)
     | Some rec ↦ λ there. (rec, there)
   ]) refl
 
@@ -154,7 +154,7 @@ module _ (limits : Limits) (words : Words) (axioms : Axioms) (files : Files) (ma
     metadata_held = assumption metadata_sound
 
     pub metadata_free : FreeSlotsAreEmpty k
-    metadata_free slot none n = slots_without limits words axioms files limits.files read.files_are slot none n
+    metadata_free slot none n = slots_without limits words axioms files read.files_are slot none n
 
     pub metadata_closed : AreClosed k
     metadata_closed slot p q h linked = let of = had_by p slot h in had_on slot of.0 of.1 p q h linked
@@ -176,7 +176,7 @@ module _ (limits : Limits) (words : Words) (axioms : Axioms) (files : Files) (ma
 
   module _ (slot : ℕ) (rec : FileRecord) (there : rec_at files.catalog slot ≡ Some rec) where
     abbrev numbers : HasSomeNumbers words axioms.taxonomy rec (numbers_at files.ext slot)
-    numbers = slot_numbers limits words axioms files limits.files read.files_are slot rec there
+    numbers = slot_numbers limits words axioms files read.files_are slot rec there
 
     -- the slot's file, whatever its bytes are
     abbrev file : File
@@ -185,7 +185,7 @@ module _ (limits : Limits) (words : Words) (axioms : Axioms) (files : Files) (ma
     given : list_all (is_assignable (declared_words words)) file.assigned ≡ true
     given = all_from (is_assignable (declared_words words)) (words_told words.dict rec.tags) (λ w m.
         let found = among_told words.dict rec.tags w m in
-        let word = given_word limits words axioms files limits.files read.files_are slot found.0 rec there found.1 in
+        let word = given_word limits words axioms files read.files_are slot found.0 rec there found.1 in
         subst (λ v. is_assignable (declared_words words) v ≡ true) (same_Some word.0 w (sym word.1 ∙ found.2)) word.2)
 
     test_met : (n : ℕ) (w : List ℕ) → word_of words.dict n ≡ Some w → is_test w ≡ true → has files.ext n slot ≡ is_met (test_of w) rec.size
@@ -197,7 +197,7 @@ module _ (limits : Limits) (words : Words) (axioms : Axioms) (files : Files) (ma
     untested : (n : ℕ) → has_number rec.tags n ≡ true → is_some (test_by (word_of words.dict n)) ≡ false
     untested n tag =
         let m = among_from_number rec.tags n tag in
-        let word = given_word limits words axioms files limits.files read.files_are slot n rec there m in
+        let word = given_word limits words axioms files read.files_are slot n rec there m in
         ap (λ o. is_some (test_by o)) word.1 ∙ assigned_no_test metadata metadata_are file.assigned given word.0 (told_among words.dict rec.tags n word.0 word.1 m)
 
     met_by_number : (n : ℕ) → is_some (test_by (word_of words.dict n)) ≡ true → has files.ext n slot ≡ is_met (test_by (word_of words.dict n)) rec.size
@@ -312,14 +312,14 @@ module _ (limits : Limits) (words : Words) (axioms : Axioms) (files : Files) (ma
     assigned = each_file (λ (file : File). list_all (is_assignable s.declared) file.assigned) (λ f m.
         all_from (is_assignable s.declared) (words_told words.dict f.rec.tags) (λ w in_w.
         let found = among_word held held_sound f.rec.tags w in_w in
-        let given = given_word limits words axioms files _ read.files_are f.slot found.0 f.rec (filed_rec files.catalog held_sound.catalog f m) (among_from_number f.rec.tags found.0 found.2) in
+        let given = given_word limits words axioms files read.files_are f.slot found.0 f.rec (filed_rec files.catalog held_sound.catalog f m) (among_from_number f.rec.tags found.0 found.2) in
         subst (λ v. is_assignable (declared_words words) v ≡ true) (same_Some given.0 w (sym given.1 ∙ found.1)) given.2));
     few_assigned = each_file (λ (file : File). nat_le (length file.assigned) 16) (λ f m.
         le-leb (length (words_told words.dict f.rec.tags)) 16 (let few = few_tags f.rec.tags (entry_record f m).tags in omega (arith, few, told_few words.dict f.rec.tags)));
     few_words = each_file (λ (file : File). nat_le (length (description s file)) 128) (λ f m.
         le-leb (length (description s (file_told limits words.dict at f))) 128
         (let is = ap (λ ws. length ws) (is_described f (contains_from_among files.catalog.entries f m)) in
-        omega (arith, is, told_few words.dict (numbers_at files.ext f.slot), read.files_are.short f.slot)));
+        omega (arith, is, told_few words.dict (numbers_at files.ext f.slot), read.files_are.taken.short f.slot)));
     short = each_file (λ (file : File). nat_le (length file.bytes) (file_limit limits.version)) (λ f m.
         le-leb (length (bytes_told limits at f.rec)) (file_limit limits.version)
         (let small = (entry_record f m).small in omega (arith, short_bytes f, small)));
@@ -330,7 +330,7 @@ module _ (limits : Limits) (words : Words) (axioms : Axioms) (files : Files) (ma
   block_taken f n in_f has_it = spelled.records.blocks.taken f.slot f.rec n (filed_rec files.catalog held_sound.catalog f in_f) has_it
 
   block_below : (f : Filed) (n : ℕ) → Among files.catalog.entries f → has_number (blocks_of f) n ≡ true → n < limits.blocks
-  block_below f n in_f has_it = let below = below_if_taken files.map n (block_taken f n in_f has_it) in omega (arith, below, read.files_are.blocks)
+  block_below f n in_f has_it = let below = below_if_taken files.map n (block_taken f n in_f has_it) in omega (arith, below, read.files_are.taken.blocks)
 
   abbrev all_used : List ℕ
   all_used = flat_map blocks_of files.catalog.entries

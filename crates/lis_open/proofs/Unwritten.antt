@@ -1,12 +1,11 @@
 -- What opening leaves if no gate is open.
-use Rattle.std.proofs.Common.{◌≡◌, ◌≢◌, ℕ, Bool, true, false, cond, List, Result, Ok, Err, refl, ap, subst, inl, inr}
+use Rattle.std.proofs.Common.{◌≡◌, ◌≢◌, ℕ, false, List, Result, Ok, Err, refl, subst, inl, inr}
 use Rattle.std.proofs.lemmas.Bool.{both_ways}
 use Rattle.lis_ports.specs.Meaning.{Meaning}
 use Rattle.lis_ports.specs.Calls.{IsUnchanged}
 use Rattle.lis_ports.specs.Runs.{Leaves, IsSettled}
 use Rattle.lis_ports.proofs.Moments.{leaves_weaken}
-use Rattle.lis_journal.specs.declared.layout.Layout.{Layout}
-use Rattle.lis_journal.specs.Record.{has_open, replayed, recovered_as, recovered}
+use Rattle.lis_journal.specs.Record.{has_open}
 use Rattle.lis_journal.proofs.Recovering.{recovered-closed}
 use Rattle.lis_kept.specs.Image.{image_layout}
 use Rattle.lis_store.specs.Stored.{Stored}

@@ -1,12 +1,10 @@
 -- The words of property slots: read one after another, and sorted once.
 use Rattle.lis_open.proofs.Common.{rules, ◌≡◌, ◌∙◌, refl, sym, ap, subst, inl, ℕ, ◌+◌, ◌<◌, Bool, true, false, not, is_some, Option, Some, None, List, replicate, get_or, IsTrue, IsSome, arith, ap₂, option_to_list, [], map, ⊎_elim, IfSome, length-set, get_or-set_same, get_or-set_other, fold, cases_lt, length-replicate, same_Some, Meaning, DiskFaultEnds, Held, Fits, slot, is_taken, number_of, word_of, word_from_number, number_from_word, number_below, prop_bytes, is_prop, PropSlot, FreeProp, Limits, Property, property_by, property_slots, some_number, word_in, insert_key, Among, among_map, map_among, among_flat_map, Filed, AxiomSlot, FreeAxiom, Pair, among_from_has_word, among_set_of, sorted_set_of, Metadata, bit_of, pair_by, pair_told, axioms_of, bytes_told, file_told, declared_there, there_declared, words_in, word_at, both_ways, get_or_past, has_word, flat_map_among, has_word_from_among, set_of_among, set_of, File, pair_cmp, file_of_record}
 use Rattle.lis_open.proofs.Once.{each_number}
-use Rattle.std.proofs.lemmas.Bool.{not-true, not-false}
 use Rattle.std.proofs.lemmas.List.{get_or-replicate}
 use Rattle.lis_dict.specs.Dict.{Dict, IsDict, HasWords, IsAgain, IsFirstAgain}
 use Rattle.lis_fields.specs.declared.slots.PropSlot.TheVariants.{Known, Declared}
 use Rattle.lis_kept.specs.Metadata.{property_at}
-use Rattle.lis_store.proofs.Admitted.{none_there}
 use Rattle.lis_store.proofs.Spelled.{word_by, declared_by as declared_by_slot}
 use Rattle.lis_open.specs.declared.blocks.LastBlock.{LastBlock}
 use Rattle.lis_open.specs.declared.words.Words.{Words}
@@ -25,13 +23,6 @@ use Rattle.lis_kept.proofs.WordMore.{sorted_declared, flat_all}
 use Rattle.lis_store.specs.Stands.{declared_in, all_declared, pair_in}
 use Rattle.lis_store.proofs.SlotOrder.{given_at}
 use Rattle.lis_open.proofs.Descriptions.{no_word_past, one_in, only_one}
-
--- ---- whether there is a number
-pub new_from : (o : Option ℕ) → not (is_some o) ≡ true → o ≡ None
-new_from o new = none_there o (not-true (is_some o) new)
-
-pub old_from : (o : Option ℕ) → not (is_some o) ≡ false → (n : ℕ) × (o ≡ Some n)
-old_from o old = some_number o (not-false (is_some o) old)
 
 -- ---- one word more
 module _ (slots : WordSlots) (number : ℕ) (word : List ℕ) (is_declared : Bool) (limits : Limits) (first : AreFirstSlots limits slots number) (below : number < limits.props) where

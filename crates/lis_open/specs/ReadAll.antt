@@ -25,7 +25,7 @@ use Rattle.lis_open.specs.declared.memory.LaterMemory.{LaterMemory}
 use Rattle.lis_open.specs.Checks.{Fails, rank}
 use Rattle.lis_open.specs.Reading.{PartsFail}
 use Rattle.lis_open.specs.ReadWords.{no_words, AreNoAxioms, AreFirstWords, AreFirstAxioms, WordsAreSpelled, AxiomsAreSpelled}
-use Rattle.lis_open.specs.ReadFiles.{no_files, AreFirstFiles, FilesAreTold}
+use Rattle.lis_open.specs.ReadFiles.{no_files, AreFiles, FilesAreTold}
 
 -- ---- memory
 -- a mark for each block before the data blocks, and no block is marked
@@ -33,16 +33,16 @@ pub record AreNoMarks (limits : Limits) (marks : List Bool) : Type 0 where
   pub long : data_start limits ≤ length marks
   pub none : marks ≡ replicate (length marks) false
 
--- nothing was read after the words yet
+-- nothing was read into it yet
 pub record IsEmptyLater (limits : Limits) (memory : LaterMemory) : Type 0 where
   pub axioms : AreNoAxioms limits memory.axioms
-  pub files : memory.files ≡ no_files limits
   pub row : HasShape memory.row 1 limits.props
   pub marks : AreNoMarks limits memory.marks
 
 -- nothing was read yet
 pub record IsEmptyMemory (limits : Limits) (memory : OpeningMemory) : Type 0 where
   pub words : memory.words ≡ no_words limits
+  pub files : memory.files ≡ no_files limits
   pub later : IsEmptyLater limits memory.later
 
 -- the metadata that memory keeps of what was read
@@ -110,13 +110,13 @@ RowsChecked limits at ext (Err fault) = RowDiffers limits at ext fault
 pub record AreSlotsRead (limits : Limits) (words : Words) (axioms : Axioms) (files : Files) : Type 0 where
   pub words_are : AreFirstWords limits words limits.props
   pub axioms_are : AreFirstAxioms limits words axioms (axiom_slots limits).count
-  pub files_are : AreFirstFiles limits words axioms files limits.files
+  pub files_are : AreFiles limits words axioms files
 
 -- and the slots are spelled by them
 pub record HasRead (limits : Limits) (at : ℕ → List ℕ) (words : Words) (axioms : Axioms) (files : Files) : Type 0 where
   pub words_are : AreFirstWords limits words limits.props
   pub axioms_are : AreFirstAxioms limits words axioms (axiom_slots limits).count
-  pub files_are : AreFirstFiles limits words axioms files limits.files
+  pub files_are : AreFiles limits words axioms files
   pub properties : WordsAreSpelled limits at words limits.props
   pub pairs : AxiomsAreSpelled limits at axioms (axiom_slots limits).count
   pub records : FilesAreTold limits at words axioms files
@@ -127,15 +127,15 @@ pub record ArePassed (limits : Limits) (at : ℕ → List ℕ) (words : Words) (
   pub none : (spot : Spot) → rank spot < 5 → Fails limits at spot → ⊥
 
 -- how reading the slots ended
-abbrev pub SlotsEnded : {T : Type 0} → Limits → (ℕ → List ℕ) → Words → Axioms → Files → Result T OpenFault → Type 0
-SlotsEnded limits at words axioms files (Ok done) = ArePassed limits at words axioms files
-SlotsEnded limits at words axioms files (Err fault) = PartsFail limits at fault
+abbrev pub SlotsEnded : Limits → (ℕ → List ℕ) → Words → Axioms → Result Files OpenFault → Type 0
+SlotsEnded limits at words axioms (Ok files) = ArePassed limits at words axioms files
+SlotsEnded limits at words axioms (Err fault) = PartsFail limits at fault
 
 -- words, axioms and files of all slots, and each word is in use
 pub record AreRead (limits : Limits) (words : Words) (axioms : Axioms) (files : Files) (marks : List Bool) : Type 0 where
   pub words_are : AreFirstWords limits words limits.props
   pub axioms_are : AreFirstAxioms limits words axioms (axiom_slots limits).count
-  pub files_are : AreFirstFiles limits words axioms files limits.files
+  pub files_are : AreFiles limits words axioms files
   pub used : (n : ℕ) → is_stray (metadata_in limits words axioms files marks) n ≡ false
 
 -- the blocks of all parts are spelled by them
@@ -151,9 +151,13 @@ abbrev pub PartsEnded : {T : Type 0} → Limits → (ℕ → List ℕ) → Words
 PartsEnded limits at words axioms files (Ok done) = AreSpelled limits at words axioms files
 PartsEnded limits at words axioms files (Err fault) = PartsFail limits at fault
 
-abbrev pub AllEnded : Limits → (ℕ → List ℕ) → Axioms → Files → Result Words OpenFault → Type 0
-AllEnded limits at axioms files (Ok words) = AreSpelled limits at words axioms files
-AllEnded limits at axioms files (Err fault) = PartsFail limits at fault
+abbrev pub LaterEnded : Limits → (ℕ → List ℕ) → Words → Axioms → Result Files OpenFault → Type 0
+LaterEnded limits at words axioms (Ok files) = AreSpelled limits at words axioms files
+LaterEnded limits at words axioms (Err fault) = PartsFail limits at fault
+
+abbrev pub AllEnded : Limits → (ℕ → List ℕ) → Axioms → Result (Words × Files) OpenFault → Type 0
+AllEnded limits at axioms (Ok parts) = AreSpelled limits at parts.0 axioms parts.1
+AllEnded limits at axioms (Err fault) = PartsFail limits at fault
 
 -- a store that represents a state, and is written in these blocks
 pub record StoreTells (at : ℕ → List ℕ) (store : Stored) : Type 0 where

@@ -1,5 +1,5 @@
 -- What is read of files. No public clause cites this module.
-use Rattle.std.specs.Prelude.{◌≡◌, ℕ, ◌≤◌, ◌<◌, nat_le, Bool, true, false, not, ◌&&◌, ◌||◌, is_some, Option, Some, None, List, [], ◌++◌, length, replicate, slice_set, IsTrue}
+use Rattle.std.specs.Prelude.{◌≡◌, ℕ, ◌≤◌, ◌<◌, nat_le, Bool, true, false, not, ◌&&◌, ◌||◌, is_some, Option, Some, None, Result, Ok, Err, List, [], ◌++◌, length, replicate, slice_index_or, slice_set, IsTrue}
 use Rattle.std.specs.Option.{option_to_list}
 use Rattle.std.specs.List.{list_all, flat_map, Contains}
 use Rattle.lis_limits.specs.declared.TheConstants.{MAX_DESCRIPTION}
@@ -8,8 +8,8 @@ use Rattle.lis_blockmap.specs.Bitmap.{is_taken}
 use Rattle.lis_content.specs.Content.{marked, are_free}
 use Rattle.lis_content.specs.Large.{index_bytes, numbers_in, file_blocks, IsIndexed}
 use Rattle.lis_dict.specs.Dict.{Dict, number_of, word_of}
-use Rattle.lis_catalog.specs.Catalog.{Filed, IsCatalog, slot_of, rec_at, with_filed}
-use Rattle.lis_ext.specs.Ext.{set_of, empty_ext}
+use Rattle.lis_catalog.specs.Catalog.{Filed, IsCatalog, rec_at}
+use Rattle.lis_ext.specs.Ext.{Ext, set_of, empty_ext}
 use Rattle.lis_ext.specs.Numbers.{numbers_where}
 use Rattle.lis_taxonomy.specs.Search.{is_found}
 use Rattle.lis_taxonomy.specs.Taxonomy.{Taxonomy, any_entails}
@@ -22,19 +22,24 @@ use Rattle.lis_model.specs.declared.limits.Limits.{Limits}
 use Rattle.lis_model.specs.Derived.{derived_words}
 use Rattle.lis_model.specs.State.{file_words, blocks_needed, is_assignable}
 use Rattle.lis_model.specs.Tests.{met_tests}
-use Rattle.lis_kept.specs.Metadata.{record_at}
+use Rattle.lis_kept.specs.Metadata.{file_by}
 use Rattle.lis_kept.specs.Areas.{file_slots}
 use Rattle.lis_kept.specs.Sound.{is_sound_record}
 use Rattle.lis_kept.specs.Telling.{words_told, bytes_told, blocks_told, HasIndex, file_told, axioms_of}
 use Rattle.lis_open.specs.declared.words.Words.{Words}
 use Rattle.lis_open.specs.declared.axioms.Axioms.{Axioms}
 use Rattle.lis_open.specs.declared.files.Files.{Files}
+use Rattle.lis_open.specs.declared.files.FileSlots.{FileSlots}
+use Rattle.lis_open.specs.declared.mounting.OpenFault.{OpenFault}
+use Rattle.lis_open.specs.Checks.{FileFails}
+use Rattle.lis_open.specs.Reading.{KindFails, Passes}
 use Rattle.lis_open.specs.ReadWords.{declared_words, kept_words}
 use Rattle.lis_model.specs.Sets.{are_distinct, has_number}
 
-unfoldable pub no_files : Limits → Files
+-- no slot was read
+unfoldable pub no_files : Limits → FileSlots
 no_files limits = record {
-  catalog = record { files = limits.files; entries = [] };
+  unsorted = replicate limits.files None;
   map = replicate limits.blocks false;
   ext = empty_ext limits.props limits.files;
 }
@@ -103,10 +108,6 @@ is_assignable_by words (Some word) = is_assignable (declared_words words) word
 abbrev pub is_assignable_number : Words → ℕ → Bool
 is_assignable_number words n = is_assignable_by words (word_of words.dict n)
 
--- the file may be filed: its name is new, and its words may be assigned
-abbrev pub may_file : Words → Files → FileRecord → Bool
-may_file words files rec = not (is_some (slot_of files.catalog rec.name)) && list_all (is_assignable_number words) rec.tags
-
 -- ---- blocks
 -- The blocks that are read for a file are usable: there are such blocks, no earlier file uses them, and none of them occurs twice.
 pub record AreUsable (taken : List Bool) (slot blocks : List ℕ) : Type 0 where
@@ -138,15 +139,15 @@ AreItsBlocks limits at taken rec (Some blocks) = HasIndex limits at rec × (bloc
 
 -- ---- one file
 -- the slot is free for a file: it has none, and no numbers
-pub record IsFreeSlot (files : Files) (slot : ℕ) : Type 0 where
-  pub below : slot < files.catalog.files
-  pub empty : rec_at files.catalog slot ≡ None
-  pub within : slot < length files.ext.sets
-  pub undescribed : set_of files.ext slot ≡ []
+pub record IsFreeSlot (slots : FileSlots) (slot : ℕ) : Type 0 where
+  pub below : slot < length slots.unsorted
+  pub empty : slice_index_or slots.unsorted slot None ≡ None
+  pub within : slot < length slots.ext.sets
+  pub undescribed : set_of slots.ext slot ≡ []
 
--- the file is in the slot, its blocks are taken, and the slot has these numbers
-pub record TakesNumbers (slot : ℕ) (rec : FileRecord) (blocks numbers : List ℕ) (old new : Files) : Type 0 where
-  pub catalog : new.catalog ≡ with_filed old.catalog slot rec
+-- the record is in the slot, its blocks are taken, and the slot has these numbers
+pub record TakesNumbers (slot : ℕ) (rec : FileRecord) (blocks numbers : List ℕ) (old new : FileSlots) : Type 0 where
+  pub records : new.unsorted ≡ slice_set old.unsorted slot (Some rec)
   pub map : new.map ≡ marked old.map blocks
   pub props : new.ext.props ≡ old.ext.props
   pub sets : new.ext.sets ≡ slice_set old.ext.sets slot numbers
@@ -166,58 +167,103 @@ pub record AreTold (limits : Limits) (at : ℕ → List ℕ) (rec : FileRecord) 
 
 -- The record's file may be taken and is, with these blocks and the words of these bytes. The blocks and the words are those of each content
 -- that the disk may keep.
-pub record TakesRecord (limits : Limits) (MayBeKept : (ℕ → List ℕ) → Type 0) (words : Words) (t : Taxonomy) (slot : ℕ) (rec : FileRecord) (old new : Files) : Type 0 where
+pub record TakesRecord (limits : Limits) (MayBeKept : (ℕ → List ℕ) → Type 0) (words : Words) (t : Taxonomy) (slot : ℕ) (rec : FileRecord) (old new : FileSlots) : Type 0 where
   pub bytes : List ℕ
   pub blocks : List ℕ
   pub sized : length bytes ≡ rec.size
-  pub filed : may_file words old rec ≡ true
+  pub given : list_all (is_assignable_number words) rec.tags ≡ true
   pub describes : may_describe words t rec (found_words words rec.name bytes) ≡ true
   pub usable : AreUsable old.map rec.blocks blocks
   pub takes : TakesNumbers slot rec blocks (described t (own_numbers words.dict rec.tags (found_words words rec.name bytes))) old new
   pub told : (kept : ℕ → List ℕ) → MayBeKept kept → AreTold limits kept rec bytes blocks
 
-abbrev pub TakesFile : Limits → ((ℕ → List ℕ) → Type 0) → Words → Taxonomy → ℕ → Option FileSlot → Files → Files → Type 0
+abbrev pub TakesFile : Limits → ((ℕ → List ℕ) → Type 0) → Words → Taxonomy → ℕ → Option FileSlot → FileSlots → FileSlots → Type 0
 TakesFile limits MayBeKept words t slot None old new = ⊥
 TakesFile limits MayBeKept words t slot (Some FreeFile) old new = new ≡ old
 TakesFile limits MayBeKept words t slot (Some (Used rec)) old new = TakesRecord limits MayBeKept words t slot rec old new
 
 -- why a record's file is not taken
-pub data RecordFault (limits : Limits) (at : ℕ → List ℕ) (words : Words) (t : Taxonomy) (files : Files) (rec : FileRecord) : Type 0 where
-  NotFiled : may_file words files rec ≡ false → RecordFault limits at words t files rec
-  NoBlocks : (HasBlocks limits at files.map rec → ⊥) → RecordFault limits at words t files rec
-  NotDescribed : may_describe words t rec (found_words words rec.name (bytes_told limits at rec)) ≡ false → RecordFault limits at words t files rec
+pub data RecordFault (limits : Limits) (at : ℕ → List ℕ) (words : Words) (t : Taxonomy) (taken : List Bool) (rec : FileRecord) : Type 0 where
+  NotAssignable : list_all (is_assignable_number words) rec.tags ≡ false → RecordFault limits at words t taken rec
+  NoBlocks : (HasBlocks limits at taken rec → ⊥) → RecordFault limits at words t taken rec
+  NotDescribed : may_describe words t rec (found_words words rec.name (bytes_told limits at rec)) ≡ false → RecordFault limits at words t taken rec
 
 -- and why the file of a slot is not taken
-abbrev pub HasSlotFault : Limits → (ℕ → List ℕ) → Words → Taxonomy → Files → Option FileSlot → Type 0
-HasSlotFault limits at words t files None = Unit {0}
-HasSlotFault limits at words t files (Some FreeFile) = ⊥
-HasSlotFault limits at words t files (Some (Used rec)) = RecordFault limits at words t files rec
+abbrev pub HasSlotFault : Limits → (ℕ → List ℕ) → Words → Taxonomy → List Bool → Option FileSlot → Type 0
+HasSlotFault limits at words t taken None = Unit {0}
+HasSlotFault limits at words t taken (Some FreeFile) = ⊥
+HasSlotFault limits at words t taken (Some (Used rec)) = RecordFault limits at words t taken rec
 
 -- ---- files
+-- the files that were taken: the record of each slot, the blocks in use, and the numbers of each slot
+pub record TakenFiles : Type 0 where
+  pub records : ℕ → Option FileRecord
+  pub map : List Bool
+  pub ext : Ext
+
+-- those of slots that are not sorted yet
+abbrev pub in_slots : FileSlots → TakenFiles
+in_slots slots = record { records = λ n. slice_index_or slots.unsorted n None; map = slots.map; ext = slots.ext }
+
+-- and those of a catalog
+abbrev pub in_catalog : Files → TakenFiles
+in_catalog files = record { records = λ n. rec_at files.catalog n; map = files.map; ext = files.ext }
+
 -- Files of the slots below the end. Their words may be assigned, and the slots have the numbers of their descriptions.
-pub record AreFirstFiles (limits : Limits) (words : Words) (axioms : Axioms) (files : Files) (end : ℕ) : Type 0 where
-  pub slots : files.catalog.files ≡ limits.files
-  pub catalog : IsCatalog files.catalog
-  pub records : (slot : ℕ) (rec : FileRecord) → rec_at files.catalog slot ≡ Some rec → IsTrue (is_sound_record limits.version words.dict limits.blocks rec)
-  pub given : (slot : ℕ) (rec : FileRecord) → rec_at files.catalog slot ≡ Some rec → IsTrue (list_all (is_assignable_number words) rec.tags)
-  pub rest : (n : ℕ) → end ≤ n → rec_at files.catalog n ≡ None
-  pub counted : length files.catalog.entries ≤ end
+pub record AreTaken (limits : Limits) (words : Words) (axioms : Axioms) (files : TakenFiles) (end : ℕ) : Type 0 where
+  pub records : (slot : ℕ) (rec : FileRecord) → files.records slot ≡ Some rec → IsTrue (is_sound_record limits.version words.dict limits.blocks rec)
+  pub given : (slot : ℕ) (rec : FileRecord) → files.records slot ≡ Some rec → IsTrue (list_all (is_assignable_number words) rec.tags)
+  pub rest : (n : ℕ) → end ≤ n → files.records n ≡ None
   pub blocks : length files.map ≡ limits.blocks
   pub props : files.ext.props ≡ limits.props
   pub count : length files.ext.sets ≡ limits.files
-  pub sets : (slot : ℕ) → AreNumbers words axioms.taxonomy (rec_at files.catalog slot) (set_of files.ext slot)
+  pub sets : (slot : ℕ) → AreNumbers words axioms.taxonomy (files.records slot) (set_of files.ext slot)
   pub short : (slot : ℕ) → length (set_of files.ext slot) ≤ MAX_DESCRIPTION
   pub settled : files.ext.marks ≡ []
 
-abbrev pub FilesAreSpelled : Limits → (ℕ → List ℕ) → Files → ℕ → Type 0
+-- The files of the slots below the end were taken, and of no other ones. A name may be there twice.
+pub record AreFirstRecords (limits : Limits) (words : Words) (axioms : Axioms) (slots : FileSlots) (end : ℕ) : Type 0 where
+  pub within : end ≤ limits.files
+  pub long : length slots.unsorted ≡ limits.files
+  pub taken : AreTaken limits words axioms (in_slots slots) end
+
+-- the files of all slots, by their names
+pub record AreFiles (limits : Limits) (words : Words) (axioms : Axioms) (files : Files) : Type 0 where
+  pub slots : files.catalog.files ≡ limits.files
+  pub catalog : IsCatalog files.catalog
+  pub taken : AreTaken limits words axioms (in_catalog files) limits.files
+
+abbrev pub FilesAreSpelled : Limits → (ℕ → List ℕ) → TakenFiles → ℕ → Type 0
 FilesAreSpelled limits at files end =
-    (n : ℕ) → n < end → slot (file_slots limits) at n ≡ file_bytes (record_at files.catalog n)
+    (n : ℕ) → n < end → slot (file_slots limits) at n ≡ file_bytes (file_by (files.records n))
 
 -- the numbers of each file are those of the words that are found in it
-abbrev pub FilesAreNumbered : Limits → (ℕ → List ℕ) → Words → Axioms → Files → Type 0
+abbrev pub FilesAreNumbered : Limits → (ℕ → List ℕ) → Words → Axioms → TakenFiles → Type 0
 FilesAreNumbered limits at words axioms files =
-    (slot : ℕ) (rec : FileRecord) → rec_at files.catalog slot ≡ Some rec
+    (slot : ℕ) (rec : FileRecord) → files.records slot ≡ Some rec
     → HasNumbers words axioms.taxonomy rec (found_words words rec.name (bytes_told limits at rec)) (set_of files.ext slot)
+
+-- Their index blocks are well formed. The blocks that are taken are those of files, and none of them is used twice, by one file or by two.
+pub record FilesHaveBlocks (limits : Limits) (at : ℕ → List ℕ) (files : TakenFiles) : Type 0 where
+  pub indexed : (slot : ℕ) (rec : FileRecord) → files.records slot ≡ Some rec → HasIndex limits at rec
+  pub distinct : (slot : ℕ) (rec : FileRecord) → files.records slot ≡ Some rec → IsTrue (are_distinct (blocks_told limits at rec))
+  pub taken : (slot : ℕ) (rec : FileRecord) (n : ℕ) → files.records slot ≡ Some rec → has_number (blocks_told limits at rec) n ≡ true
+      → is_taken files.map n ≡ true
+  pub in_use : (n : ℕ) → is_taken files.map n ≡ true
+      → (slot : ℕ) × (rec : FileRecord) × (files.records slot ≡ Some rec) × (has_number (blocks_told limits at rec) n ≡ true)
+  pub one_use : (slot other : ℕ) (rec more : FileRecord) (n : ℕ) → files.records slot ≡ Some rec → files.records other ≡ Some more
+      → has_number (blocks_told limits at rec) n ≡ true → has_number (blocks_told limits at more) n ≡ true → slot ≡ other
+
+-- what blocks say of the files of the slots below the end
+pub record AreSoFar (limits : Limits) (at : ℕ → List ℕ) (words : Words) (axioms : Axioms) (files : TakenFiles) (end : ℕ) : Type 0 where
+  pub spelled : FilesAreSpelled limits at files end
+  pub numbered : FilesAreNumbered limits at words axioms files
+  pub blocks : FilesHaveBlocks limits at files
+
+-- and the check of the slot at the end, if there is one, fails
+pub record RecordsEnded (limits : Limits) (at : ℕ → List ℕ) (words : Words) (axioms : Axioms) (slots : FileSlots) (end : ℕ) : Type 0 where
+  pub so_far : AreSoFar limits at words axioms (in_slots slots) end
+  pub fails : end < limits.files → FileFails limits at end
 
 -- the words of their numbers are their descriptions
 abbrev pub FilesAreDescribed : Limits → (ℕ → List ℕ) → Words → Axioms → Files → Type 0
@@ -225,18 +271,12 @@ FilesAreDescribed limits at words axioms files =
     (f : Filed) → Contains files.catalog.entries f → words_told words.dict (set_of files.ext f.slot)
     ≡ file_words (declared_words words) (axioms_of (kept_words limits words axioms.slots.items)) (file_told limits words.dict at f)
 
--- Their index blocks are well formed. The blocks that are taken are those of files, and none of them is used twice, by one file or by two.
-pub record FilesHaveBlocks (limits : Limits) (at : ℕ → List ℕ) (files : Files) : Type 0 where
-  pub indexed : (slot : ℕ) (rec : FileRecord) → rec_at files.catalog slot ≡ Some rec → HasIndex limits at rec
-  pub distinct : (slot : ℕ) (rec : FileRecord) → rec_at files.catalog slot ≡ Some rec → IsTrue (are_distinct (blocks_told limits at rec))
-  pub taken : (slot : ℕ) (rec : FileRecord) (n : ℕ) → rec_at files.catalog slot ≡ Some rec → has_number (blocks_told limits at rec) n ≡ true
-      → is_taken files.map n ≡ true
-  pub in_use : (n : ℕ) → is_taken files.map n ≡ true
-      → (slot : ℕ) × (rec : FileRecord) × (rec_at files.catalog slot ≡ Some rec) × (has_number (blocks_told limits at rec) n ≡ true)
-  pub one_use : (slot other : ℕ) (rec more : FileRecord) (n : ℕ) → rec_at files.catalog slot ≡ Some rec → rec_at files.catalog other ≡ Some more
-      → has_number (blocks_told limits at rec) n ≡ true → has_number (blocks_told limits at more) n ≡ true → slot ≡ other
-
 pub record FilesAreTold (limits : Limits) (at : ℕ → List ℕ) (words : Words) (axioms : Axioms) (files : Files) : Type 0 where
-  pub spelled : FilesAreSpelled limits at files limits.files
-  pub blocks : FilesHaveBlocks limits at files
+  pub spelled : FilesAreSpelled limits at (in_catalog files) limits.files
+  pub blocks : FilesHaveBlocks limits at (in_catalog files)
   pub described : FilesAreDescribed limits at words axioms files
+
+-- how reading the file slots ended
+abbrev pub FilesEnded : Limits → (ℕ → List ℕ) → Words → Axioms → Result Files OpenFault → Type 0
+FilesEnded limits at words axioms (Ok files) = Passes limits at 4 (FilesAreTold limits at words axioms files)
+FilesEnded limits at words axioms (Err fault) = KindFails limits at 4 fault

@@ -5,7 +5,6 @@ use Rattle.lis_ports.specs.Meaning.{Meaning}
 use Rattle.lis_ports.specs.Runs.{Always, IsSettled}
 use Rattle.lis_journal.specs.Record.{recovered}
 use Rattle.lis_model.specs.declared.limits.Limits.{Limits}
-use Rattle.lis_model.specs.Image.{image_blocks}
 use Rattle.lis_model.specs.State.{State}
 use Rattle.lis_store.specs.Stands.{Stands}
 use Rattle.lis_open.specs.declared.mounting.OpenFault.{OpenFault}

@@ -16,7 +16,7 @@ ghost use Rattle.lis_kept.specs.Rows.{row_bytes};
 ghost use Rattle.lis_kept.specs.Telling.{is_had, is_left_of, is_left_head_of};
 ghost use Rattle.lis_open.specs.Reading.{Recalls, ReadsPart, IsReadable};
 ghost use Rattle.lis_open.specs.ReadWords.{AreWords, AreFirstWords, AreFirstAxioms};
-ghost use Rattle.lis_open.specs.ReadFiles.{AreFirstFiles};
+ghost use Rattle.lis_open.specs.ReadFiles.{AreFiles};
 ghost use Rattle.lis_open.specs.ReadAll.{metadata_in, WordsChecked, BitmapChecked, IsRowSpelled, RowsChecked};
 
 use crate::axioms::{Axioms, head_number};
@@ -104,7 +104,7 @@ pub fn check_words(
     requires range { IsTrue (are_in_range limits.now) }
     requires words { AreFirstWords limits.now words.now limits.now.props }
     requires axioms { AreFirstAxioms limits.now words.now axioms.now (axiom_slots limits.now).count }
-    requires files { AreFirstFiles limits.now words.now axioms.now files.now limits.now.files }
+    requires files { AreFiles limits.now words.now axioms.now files.now }
     requires shape { HasShape row.old 1 limits.now.props }
     ensures { (marks : List Bool) → WordsChecked (metadata_in limits.now words.now axioms.now files.now marks) result }
 {

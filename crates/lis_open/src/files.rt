@@ -1,6 +1,6 @@
 //! The files of an image: its file slots, and the descriptions that they have.
 
-ghost use Rattle.std.specs.Prelude.{◌≡◌, ◌<◌, ◌≤◌, ◌&&◌, nat_lt, ℕ, List, length, All, Some, None, IsTrue, IfOk, IfSome, OnOk};
+ghost use Rattle.std.specs.Prelude.{◌≡◌, ◌<◌, ◌≤◌, ◌&&◌, nat_lt, ℕ, List, length, All, Some, None, IsTrue, IfOk, IfSome};
 ghost use Rattle.std.specs.Bool.{OnTrue, OnFalse};
 ghost use Rattle.std.specs.List.{list_all};
 ghost use Rattle.std.specs.List.Sorted.{IsStrictlyIncreasing};
@@ -10,7 +10,6 @@ ghost use Rattle.lis_journal.specs.Images.{Fits};
 ghost use Rattle.lis_content.specs.Content.{marked, are_free};
 ghost use Rattle.lis_dict.specs.Dict.{number_of};
 ghost use Rattle.lis_taxonomy.specs.Search.{is_found};
-ghost use Rattle.lis_catalog.specs.Catalog.{slot_of};
 ghost use Rattle.lis_ext.specs.Numbers.{numbers_where};
 ghost use Rattle.lis_fields.specs.Layouts.{file_bytes, is_file, is_record};
 ghost use Rattle.lis_words.specs.Words.{test_of};
@@ -18,9 +17,9 @@ ghost use Rattle.lis_model.specs.Tests.{is_met, met_tests};
 ghost use Rattle.lis_model.specs.Ranges.{are_in_range};
 ghost use Rattle.lis_kept.specs.Areas.{file_slots, axiom_slots};
 ghost use Rattle.lis_kept.specs.Telling.{bit_of};
-ghost use Rattle.lis_open.specs.Reading.{Recalls, IsReadAs, Ends, ReadsPart, IsReadable};
+ghost use Rattle.lis_open.specs.Reading.{Recalls, IsReadAs, ReadsPart, IsReadable};
 ghost use Rattle.lis_open.specs.ReadWords.{AreWords, declared_words, AreFirstWords, AreFirstAxioms, WordsAreSpelled, AxiomsAreSpelled};
-ghost use Rattle.lis_open.specs.ReadFiles.{no_files, Gathered, AreListed, found_words, numbers_of, is_numbered, AreDescribed, may_file, TakesNumbers, TakesRecord, TakesFile, RecordFault, HasSlotFault, AreFirstFiles, FilesAreTold, IsFreeSlot};
+ghost use Rattle.lis_open.specs.ReadFiles.{no_files, Gathered, AreListed, found_words, numbers_of, is_numbered, AreDescribed, is_assignable_number, TakesNumbers, TakesRecord, TakesFile, RecordFault, HasSlotFault, AreFirstRecords, RecordsEnded, AreFiles, FilesEnded, IsFreeSlot};
 ghost use Rattle.lis_model.specs.Sets.{are_distinct};
 
 use crate::axioms::Axioms;
@@ -32,7 +31,7 @@ use crate::naming::{are_assignable, numbered};
 use crate::words::Words;
 use arrayvec::ArrayVec;
 use lis_blockmap::BlockMap;
-use lis_catalog::Catalog;
+use lis_catalog::{Catalog, Unsorted};
 use lis_content::Buffer;
 use lis_derive::derive_words;
 use lis_ext::Ext;
@@ -63,14 +62,27 @@ impl Files {
     pub fn close(self) {}
 }
 
-/// No files yet.
+/// What is read of the file slots: the records by their slots, not sorted by their names yet, and the rest as in `Files`.
+#[derive(Drop)]
+pub struct FileSlots {
+    pub unsorted: Unsorted,
+    pub map: BlockMap,
+    pub ext: Ext,
+}
+
+impl FileSlots {
+    /// Frees their memory, as `Files::close` does.
+    pub fn close(self) {}
+}
+
+/// No slot is read yet.
 #[tactic(auto, unfolding(crate::specs::ReadFiles::no_files))]
-pub fn no_files(alloc: Global, limits: &Limits) -> Result<Files, AllocError>
+pub fn no_files(alloc: Global, limits: &Limits) -> Result<FileSlots, AllocError>
     requires { IsTrue (are_in_range limits.now) }
-    ensures { IfOk result (λ files. files ≡ no_files limits.now) }
+    ensures { IfOk result (λ slots. slots ≡ no_files limits.now) }
 {
-    Ok(Files {
-        catalog: Catalog::new(alloc, limits.files)?,
+    Ok(FileSlots {
+        unsorted: Unsorted::new(alloc, limits.files)?,
         map: BlockMap::new(alloc, limits.blocks)?,
         ext: Ext::new(alloc, limits.props, limits.files)?,
     })
@@ -200,32 +212,20 @@ fn describe(
     list_numbers(search)
 }
 
-// Whether no earlier file has the name, and the words may be assigned.
-fn may_file(words: &Words, files: &Files, rec: &FileRec) -> bool
-    requires { AreWords words.now }
-    ensures { result ≡ may_file words.now files.now rec.now }
-{
-    if files.catalog.slot_of(&rec.name).is_some() {
-        return false;
-    }
-    are_assignable(words, rec.tags.as_slice())
-}
-
-// Files a record, takes its blocks, and gives its slot the numbers of its description.
-fn file(files: &mut Files, slot: u32, rec: FileRec, blocks: &[u32], numbers: &[u32])
+// Takes a record, marks its blocks, and gives its slot the numbers of its description.
+fn file(slots: &mut FileSlots, slot: u32, rec: FileRec, blocks: &[u32], numbers: &[u32])
     requires distinct { IsTrue (are_distinct blocks.now) }
-    requires name { slot_of files.old.catalog rec.name ≡ None }
-    requires free { IsTrue (are_free files.old.map blocks.now) }
-    requires slot { IsFreeSlot files.old slot }
+    requires free { IsTrue (are_free slots.old.map blocks.now) }
+    requires slot { IsFreeSlot slots.old slot }
     requires few { length numbers.now ≤ MAX_DESCRIPTION }
     requires rise { IsStrictlyIncreasing numbers.now }
-    requires in_range { All (λ n. n < files.old.ext.props) numbers.now }
-    ensures { TakesNumbers slot rec blocks.now numbers.now files.old files.new }
+    requires in_range { All (λ n. n < slots.old.ext.props) numbers.now }
+    ensures { TakesNumbers slot rec blocks.now numbers.now slots.old slots.new }
 {
-    mark_all(&mut files.map, blocks);
-    files.catalog.place(slot, rec);
-    files.ext.set_file(slot, numbers);
-    files.ext.settle();
+    mark_all(&mut slots.map, blocks);
+    slots.unsorted.put(slot, rec);
+    slots.ext.set_file(slot, numbers);
+    slots.ext.settle();
 }
 
 /// What the reader of files only reads.
@@ -242,7 +242,7 @@ pub struct Known<'a> {
 fn take_record<D: Disk>(
     disk: &mut D,
     known: Known,
-    files: &mut Files,
+    slots: &mut FileSlots,
     search: &mut Search,
     bytes: &mut Buffer,
     slot: u32,
@@ -252,20 +252,20 @@ fn take_record<D: Disk>(
     requires are { AreWords known.words.now }
     requires form { IsTrue (is_record known.limits.now.version rec) }
     requires props { known.axioms.now.taxonomy.props ≡ known.words.now.dict.props }
-    requires ext { files.old.ext.props ≡ known.words.now.dict.props }
-    requires map { length files.old.map ≡ known.limits.now.blocks }
-    requires slot { IsFreeSlot files.old slot }
+    requires ext { slots.old.ext.props ≡ known.words.now.dict.props }
+    requires map { length slots.old.map ≡ known.limits.now.blocks }
+    requires slot { IsFreeSlot slots.old slot }
     ensures disk { ReadsDisk (D.meaning disk.old) (D.meaning disk.new) result }
     ensures taken { IfOk result (λ taken. OnTrue taken
-        (TakesRecord known.entry.limits.now (Fits known.entry.journal.now (D.meaning disk.old)) known.entry.words.now known.entry.axioms.now.taxonomy slot rec files.old files.new)) }
-    ensures refused { IfOk result (λ taken. OnFalse taken ((files.new ≡ files.old)
+        (TakesRecord known.entry.limits.now (Fits known.entry.journal.now (D.meaning disk.old)) known.entry.words.now known.entry.axioms.now.taxonomy slot rec slots.old slots.new)) }
+    ensures refused { IfOk result (λ taken. OnFalse taken ((slots.new ≡ slots.old)
         × ((kept : ℕ → List ℕ) → Fits known.entry.journal.now (D.meaning disk.old) kept
-        → RecordFault known.entry.limits.now kept known.entry.words.now known.entry.axioms.now.taxonomy files.old rec))) }
+        → RecordFault known.entry.limits.now kept known.entry.words.now known.entry.axioms.now.taxonomy slots.old.map rec))) }
 {
-    if !may_file(known.words, files, &rec) {
+    if !are_assignable(known.words, rec.tags.as_slice()) {
         return Ok(false);
     }
-    let Some(blocks) = free_blocks(disk, known.journal, known.limits, &files.map, &rec)? else {
+    let Some(blocks) = free_blocks(disk, known.journal, known.limits, &slots.map, &rec)? else {
         return Ok(false);
     };
     let all_blocks = blocks.as_slice();
@@ -279,7 +279,7 @@ fn take_record<D: Disk>(
     ) {
         None => Ok(false),
         Some(numbers) => {
-            file(files, slot, rec, all_blocks, numbers.as_slice());
+            file(slots, slot, rec, all_blocks, numbers.as_slice());
             Ok(true)
         }
     }
@@ -289,7 +289,7 @@ fn take_record<D: Disk>(
 fn take_file<D: Disk>(
     disk: &mut D,
     known: Known,
-    files: &mut Files,
+    slots: &mut FileSlots,
     search: &mut Search,
     bytes: &mut Buffer,
     slot: u32,
@@ -299,50 +299,84 @@ fn take_file<D: Disk>(
     requires are { AreWords known.words.now }
     requires form { IfSome found (λ file. IsTrue (is_file known.limits.now.version file)) }
     requires props { known.axioms.now.taxonomy.props ≡ known.words.now.dict.props }
-    requires ext { files.old.ext.props ≡ known.words.now.dict.props }
-    requires map { length files.old.map ≡ known.limits.now.blocks }
-    requires slot { IsFreeSlot files.old slot }
+    requires ext { slots.old.ext.props ≡ known.words.now.dict.props }
+    requires map { length slots.old.map ≡ known.limits.now.blocks }
+    requires slot { IsFreeSlot slots.old slot }
     ensures disk { ReadsDisk (D.meaning disk.old) (D.meaning disk.new) result }
     ensures taken { IfOk result (λ taken. OnTrue taken
-        (TakesFile known.entry.limits.now (Fits known.entry.journal.now (D.meaning disk.old)) known.entry.words.now known.entry.axioms.now.taxonomy slot found files.old files.new)) }
-    ensures refused { IfOk result (λ taken. OnFalse taken ((files.new ≡ files.old)
+        (TakesFile known.entry.limits.now (Fits known.entry.journal.now (D.meaning disk.old)) known.entry.words.now known.entry.axioms.now.taxonomy slot found slots.old slots.new)) }
+    ensures refused { IfOk result (λ taken. OnFalse taken ((slots.new ≡ slots.old)
         × ((kept : ℕ → List ℕ) → Fits known.entry.journal.now (D.meaning disk.old) kept
-        → HasSlotFault known.entry.limits.now kept known.entry.words.now known.entry.axioms.now.taxonomy files.old found))) }
+        → HasSlotFault known.entry.limits.now kept known.entry.words.now known.entry.axioms.now.taxonomy slots.old.map found))) }
 {
     match found {
         None => Ok(false),
         Some(FileSlot::Free) => Ok(true),
-        Some(FileSlot::Used(rec)) => take_record(disk, known, files, search, bytes, slot, rec),
+        Some(FileSlot::Used(rec)) => take_record(disk, known, slots, search, bytes, slot, rec),
     }
 }
 
-/// Reads the file slots, in the order of their numbers.
-pub fn read_files<D: Disk>(
+// Reads the file slots up to the first one whose file it does not take, and returns that slot, or the number of all slots.
+fn read_records<D: Disk>(
     last: &mut LastBlock,
     disk: &mut D,
     known: Known,
-    files: &mut Files,
+    slots: &mut FileSlots,
     search: &mut Search,
     bytes: &mut Buffer,
-) -> Result<(), OpenFault>
+) -> Result<u32, Failed>
     requires readable { IsReadable known.limits.now known.journal.now (D.meaning disk.old) }
     requires words { AreFirstWords known.limits.now known.words.now known.limits.now.props }
     requires axioms { AreFirstAxioms known.limits.now known.words.now known.axioms.now (axiom_slots known.limits.now).count }
-    requires none { files.old ≡ no_files known.limits.now }
-    ensures disk { ReadsPart (D.meaning disk.old) (D.meaning disk.new) result }
-    ensures read { OnOk result (AreFirstFiles known.entry.limits.now known.entry.words.now known.entry.axioms.now files.new known.entry.limits.now.files) }
+    requires none { slots.old ≡ no_files known.limits.now }
+    ensures disk { ReadsDisk (D.meaning disk.old) (D.meaning disk.new) result }
+    ensures read { IfOk result (λ end. AreFirstRecords known.entry.limits.now known.entry.words.now known.entry.axioms.now slots.new end) }
     ensures recalls { (kept : ℕ → List ℕ) → Fits known.entry.journal.now (D.meaning disk.old) kept → Recalls last.old kept → Recalls last.new kept }
     ensures ended { (kept : ℕ → List ℕ) → Fits known.entry.journal.now (D.meaning disk.old) kept → Recalls last.old kept
         → WordsAreSpelled known.entry.limits.now kept known.entry.words.now known.entry.limits.now.props
         → AxiomsAreSpelled known.entry.limits.now kept known.entry.axioms.now (axiom_slots known.entry.limits.now).count
-        → Ends known.entry.limits.now kept 4 (FilesAreTold known.entry.limits.now kept known.entry.words.now known.entry.axioms.now files.new) result }
+        → IfOk result (λ end. RecordsEnded known.entry.limits.now kept known.entry.words.now known.entry.axioms.now slots.new end) }
 {
     for slot in 0..known.limits.files {
         let found = read_slot(last, disk, known.journal, known.limits, slot)?;
-        let is_taken = take_file(disk, known, files, search, bytes, slot, found)?;
+        let is_taken = take_file(disk, known, slots, search, bytes, slot, found)?;
         if !is_taken {
-            return Err(OpenFault::Damaged(Spot::File(slot)));
+            return Ok(slot);
         }
     }
-    Ok(())
+    Ok(known.limits.files)
+}
+
+/// Reads the file slots, and sorts their names once. The spot is that of the first slot that is in no layout, whose file may not be
+/// taken, or that has a name of an earlier one. No slot is read past one whose file is not taken for another reason, so a name that is
+/// there twice was read before it.
+pub fn read_files<D: Disk>(
+    last: &mut LastBlock,
+    disk: &mut D,
+    known: Known,
+    slots: FileSlots,
+    search: &mut Search,
+    bytes: &mut Buffer,
+) -> Result<Files, OpenFault>
+    requires readable { IsReadable known.limits.now known.journal.now (D.meaning disk.old) }
+    requires words { AreFirstWords known.limits.now known.words.now known.limits.now.props }
+    requires axioms { AreFirstAxioms known.limits.now known.words.now known.axioms.now (axiom_slots known.limits.now).count }
+    requires none { slots ≡ no_files known.limits.now }
+    ensures disk { ReadsPart (D.meaning disk.old) (D.meaning disk.new) result }
+    ensures read { IfOk result (λ files. AreFiles known.entry.limits.now known.entry.words.now known.entry.axioms.now files) }
+    ensures recalls { (kept : ℕ → List ℕ) → Fits known.entry.journal.now (D.meaning disk.old) kept → Recalls last.old kept → Recalls last.new kept }
+    ensures ended { (kept : ℕ → List ℕ) → Fits known.entry.journal.now (D.meaning disk.old) kept → Recalls last.old kept
+        → WordsAreSpelled known.entry.limits.now kept known.entry.words.now known.entry.limits.now.props
+        → AxiomsAreSpelled known.entry.limits.now kept known.entry.axioms.now (axiom_slots known.entry.limits.now).count
+        → FilesEnded known.entry.limits.now kept known.entry.words.now known.entry.axioms.now result }
+{
+    let mut slots = slots;
+    let end = read_records(last, disk, known, &mut slots, search, bytes)?;
+    let FileSlots { unsorted, map, ext } = slots;
+    let slot = match unsorted.sort() {
+        Ok(catalog) if end == known.limits.files => return Ok(Files { catalog, map, ext }),
+        Ok(_) => end,
+        Err(again) => again,
+    };
+    Err(OpenFault::Damaged(Spot::File(slot)))
 }

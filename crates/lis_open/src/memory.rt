@@ -7,7 +7,7 @@ ghost use Rattle.lis_open.specs.ReadFiles.{no_files};
 ghost use Rattle.lis_open.specs.ReadWords.{no_words, AreNoAxioms};
 
 use crate::axioms::{Axioms, no_axioms};
-use crate::files::{Files, no_files};
+use crate::files::{FileSlots, no_files};
 use crate::words::{WordSlots, no_words};
 use lis_bits::{Flags, Rows};
 use lis_content::Buffer;
@@ -20,6 +20,7 @@ use std::alloc::{AllocError, Global};
 #[derive(Drop)]
 pub struct OpeningMemory {
     pub words: WordSlots,
+    pub files: FileSlots,
     pub later: LaterMemory,
 }
 
@@ -27,15 +28,15 @@ impl OpeningMemory {
     /// Frees its memory, as `LaterMemory::close` does.
     pub fn close(self) {
         self.later.close();
+        self.files.close();
         self.words.close();
     }
 }
 
-/// The memory of all that is read after the words.
+/// The memory of all but words and files.
 #[derive(Drop)]
 pub struct LaterMemory {
     pub axioms: Axioms,
-    pub files: Files,
     /// The check of the words uses it.
     pub row: Rows,
     /// It finds the descriptions of files.
@@ -47,9 +48,8 @@ pub struct LaterMemory {
 }
 
 impl LaterMemory {
-    /// Frees its memory. The fields with most parts are dropped by separate calls, since one drop of all takes long to check.
+    /// Frees its memory. The field with most parts is dropped by a separate call, since one drop of all takes long to check.
     pub fn close(self) {
-        self.files.close();
         self.axioms.close();
     }
 }
@@ -59,7 +59,7 @@ impl LaterMemory {
 struct SlotMemory {
     words: WordSlots,
     axioms: Axioms,
-    files: Files,
+    files: FileSlots,
 }
 
 // Allocates the memory for the slots. Nothing is read yet.
@@ -89,9 +89,9 @@ pub fn take_memory(alloc: Global, limits: &Limits) -> Result<OpeningMemory, Allo
     let slots = take_slot_memory(alloc, limits)?;
     Ok(OpeningMemory {
         words: slots.words,
+        files: slots.files,
         later: LaterMemory {
             axioms: slots.axioms,
-            files: slots.files,
             row,
             search,
             bytes,

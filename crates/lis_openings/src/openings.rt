@@ -190,7 +190,10 @@ const SONG_DAMAGES: &[(&[Patch], Spot)] = &[
     (&[(FILES + 256 + 68, b"\x01")], Spot::File(1)),
     (&[(FILES + 256 + 68, b"\x09")], Spot::File(1)),
     (&[(FILES + 256 + 100, b"\x08")], Spot::File(1)),
-    (&[(FILES + 512, b"\x01\x04song")], Spot::File(2)),
+    (
+        &[(FILES + 512, b"\x01\x04song"), (FILES + 512 + 64, b"\x02")],
+        Spot::File(2),
+    ),
     (
         &[
             (FILES + 512, b"\x01\x04sung"),
@@ -204,6 +207,26 @@ const SONG_DAMAGES: &[(&[Patch], Spot)] = &[
             (WORDS + 9 * 64, b"\x01\x0bsize:medium"),
             (FILES + 256 + 64, b"\x01\x10"),
             (FILES + 256 + 100, b"\x01\0\x01"),
+        ],
+        Spot::File(1),
+    ),
+    // a name twice before a slot in no layout, and after one
+    (
+        &[
+            (FILES, b"\x01\x04song"),
+            (FILES + 64, b"\x02"),
+            (FILES + 512, b"\x02"),
+        ],
+        Spot::File(1),
+    ),
+    (
+        &[
+            (FILES, b"\x01\x04song"),
+            (FILES + 64, b"\x02"),
+            (FILES + 256, b"\x02"),
+            (FILES + 512, b"\x01\x04song"),
+            (FILES + 512 + 64, b"\x02"),
+            (FILES + 512 + 100, b"\x02"),
         ],
         Spot::File(1),
     ),

@@ -1,6 +1,6 @@
 //! Showing the listing of a place.
 
-ghost use Rattle.std.specs.Prelude.{◌++◌};
+ghost use Rattle.std.specs.Prelude.{◌≡◌, ◌+◌, ◌≤◌, ◌++◌, [], length};
 ghost use Rattle.std.specs.List.{flat_map};
 ghost use Rattle.lis_eval.specs.Room.{HasRoom};
 ghost use Rattle.lis_model.specs.Listing.{increments, locals};
@@ -12,29 +12,59 @@ ghost use Rattle.lis_session.specs.Item.{Does};
 ghost use Rattle.lis_session.specs.Parts.{shown_line, Answers, Ends};
 
 use crate::end::End;
-use crate::replies::{answer_line, answer_ok};
+use crate::replies::{answer_bytes, answer_ok};
+use arrayvec::ArrayVec;
 use lis_eval::Scratch;
 use lis_incr::{Line, Listing, lines, make_listing};
+use lis_limits::MAX_WORD;
 use lis_place::Place;
 use lis_ports::Station;
 use lis_store::Store;
 
-// Shows a line: `d` and a word, or `f` and a name.
-fn answer_shown<T: Station>(station: &mut T, line: &Line) -> Result<(), End>
-    ensures { Answers (T.meaning station.old) (T.meaning station.new) (shown_line line.now) result }
+// How many bytes of lines are shown in one call, at most.
+const PAGE_LEN: usize = 4_096;
+
+// The most bytes of a line: a letter, a blank, a word or a name, and a line feed.
+const LINE_LEN: usize = MAX_WORD + 3;
+
+// Appends a line: `d` and a word, or `f` and a name.
+fn push_line(page: &mut ArrayVec<u8, PAGE_LEN>, line: &Line)
+    requires { length page.old.items + LINE_LEN ≤ PAGE_LEN }
+    ensures { page.new.items ≡ page.old.items ++ shown_line line.now }
 {
-    match line {
-        Line::Prop(word) => answer_line(station, b'd', word.bytes()),
-        Line::File(name) => answer_line(station, b'f', name.bytes()),
-    }
+    let (letter, text) = match line {
+        Line::Prop(word) => (b'd', word.bytes()),
+        Line::File(name) => (b'f', name.bytes()),
+    };
+    page.push(letter);
+    page.push(b' ');
+    page.try_extend_from_slice(text).unwrap();
+    page.push(b'\n');
 }
 
-// Shows the lines that are left, one by one.
+// Takes as many of the next lines as surely fit on one page.
+fn next_page(listing: &mut Listing<'_, Store>) -> ArrayVec<u8, PAGE_LEN>
+    ensures page { flat_map shown_line listing.old ≡ result.items ++ flat_map shown_line listing.new }
+    ensures last { length result.items ≡ 0 → listing.new ≡ [] }
+{
+    let mut page = ArrayVec::new();
+    while page.len() + LINE_LEN <= PAGE_LEN {
+        let Some(line) = listing.next() else {
+            return page;
+        };
+        push_line(&mut page, &line);
+    }
+    page
+}
+
+// Shows the lines that are left, a page at a time.
 fn answer_lines<T: Station>(mut listing: Listing<'_, Store>, station: &mut T) -> Result<(), End>
     ensures { Answers (T.meaning station.old) (T.meaning station.new) (flat_map shown_line listing.entry) result }
 {
-    while let Some(line) = listing.next() {
-        answer_shown(station, &line)?;
+    let mut page = next_page(&mut listing);
+    while !page.is_empty() {
+        answer_bytes(station, page.as_slice())?;
+        page = next_page(&mut listing);
     }
     Ok(())
 }

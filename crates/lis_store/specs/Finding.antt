@@ -1,5 +1,5 @@
 -- What a search finds of words: their numbers, and those of all that they entail.
-use Rattle.std.specs.Prelude.{◌≡◌, ℕ, ◌||◌, List, length, IsTrue}
+use Rattle.std.specs.Prelude.{◌≡◌, ℕ, ◌||◌, List, length}
 use Rattle.lis_dict.specs.Dict.{word_of}
 use Rattle.lis_ext.specs.Numbers.{numbers_where}
 use Rattle.lis_taxonomy.specs.Search.{AreBelow, is_found}

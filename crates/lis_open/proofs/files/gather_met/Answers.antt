@@ -1,7 +1,6 @@
-use Rattle.lis_open.proofs.Common.{◌≡◌, ◌∙◌, ◌+◌, ℕ, List, Some, sym, ap, subst, arith, slice_get, number_below, among_place}
+use Rattle.lis_open.proofs.Common.{◌≡◌, ◌∙◌, ◌+◌, ℕ, List, Some, sym, subst, arith, slice_get, number_below, among_place}
 use Rattle.lis_dict.proofs.Laws.{number_from_among}
 use Rattle.lis_eval.proofs.Members.{past_end}
-use Rattle.lis_taxonomy.specs.Search.{met}
 use Rattle.lis_open.proofs.Gathering.{MetSoFar, met_none, met_not, met_more, met_all}
 use Rattle.lis_open.proofs.files.gather_met.Goals.{then-is_met_word, else-is_met_word}
 use Rattle.lis_open.proofs.files.gather_met.Goals as goal

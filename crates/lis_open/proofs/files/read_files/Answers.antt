@@ -1,99 +1,37 @@
-use Rattle.lis_open.proofs.Common.{rules, ◌≡◌, ℕ, List, refl, sym, subst, ◌∙◌, arith, ends_none, ends_then, among_from_contains, Fits, filed_rec}
-use Rattle.std.proofs.lemmas.Bool.{OnTrue_at, OnFalse_at}
-use Rattle.lis_open.specs.declared.files.Files.{Files}
-use Rattle.lis_open.specs.ReadFiles.{AreFirstFiles, TakesFile}
-use Rattle.lis_ports.proofs.OnlyReading.{reads_none, reads_then}
-use Rattle.lis_open.proofs.BlocksRead.{fits_after}
-use Rattle.lis_open.proofs.FilesRead.{files_on, so_far_on, no_files_yet, none_so_far, file_fails, files_pass, slot_described}
+use Rattle.lis_open.proofs.Common.{rules, sym, subst, ℕ, ◌<◌, arith, err_from_is_err_and}
+use Rattle.lis_model.specs.declared.spot.Spot.TheVariants.{File as FileSpot}
+use Rattle.lis_catalog.specs.Catalog.{IsCatalog}
+use Rattle.lis_open.specs.Reading.{IsFirst}
+use Rattle.lis_open.proofs.FilesRead.{files_made, files_pass, end_fails, again_fails}
 use Rattle.lis_open.proofs.files.read_files.Goals as goal
+use Rattle.lis_open.proofs.files.read_files.Goals.{in-Ok-2, in-Err}
 
-pub loop-slot-init : goal.loop-slot-init
-loop-slot-init g c = record {
-  reads = reads_none (g.D.Disk.meaning c.args.disk.now);
-  faults = refl;
-  first_fault = ends_none (g.D.Disk.meaning c.args.disk.now);
-  first = subst (λ (files : Files). AreFirstFiles c.args.known.limits.now c.args.known.words.now c.args.known.axioms.now files 0) (sym c.requires.none) (no_files_yet c.args.known.limits.now c.args.known.words.now c.args.known.axioms.now);
-  recalls = λ kept fits recalls. recalls;
-  so_far = λ kept fits recalls. none_so_far c.args.known.limits.now c.args.known.words.now c.args.known.axioms.now c.args.files.now kept c.requires.none;
-}
+pub returns-in-Ok-clause-read : goal.returns-in-Ok-clause-read
+returns-in-Ok-clause-read g c =
+    let known = c.args.known in
+    let catalog : IsCatalog c.in-Ok.catalog = search rules in
+    files_made known.limits.now known.words.now known.axioms.now c.read_records.new.slots c.in_ok-end.end c.requires.words c.requires.axioms c.in_ok-end.ensures.read c.in-Ok.catalog catalog c.in-Ok.ensures.sorted (omega (arith, c.if-end-known.true))
 
-pub returns-then-not-is_taken-clause-disk : goal.returns-then-not-is_taken-clause-disk
-returns-then-not-is_taken-clause-disk g c =
-    let l = c.loop-slot in
-    let found = c.in_ok-found.ensures.disk in
-    let taken = c.in_ok-is_taken.ensures.disk in
-    let faults = found.cause.stays ∙ l.invariant.faults in
-    record {
-      reads = reads_then (reads_then l.invariant.reads found.reads) taken.reads;
-      cause = taken.cause.stays ∙ faults;
-      first_fault = ends_then (ends_then l.invariant.first_fault l.invariant.faults found.first_fault) faults taken.first_fault;
-    }
-
-pub returns-then-not-is_taken-clause-recalls : goal.returns-then-not-is_taken-clause-recalls
-returns-then-not-is_taken-clause-recalls g c = λ kept fits recalls.
-    let l = c.loop-slot in
-    c.in_ok-found.ensures.recalls kept (fits_after c.args.known.journal.now kept l.invariant.reads fits) (l.invariant.recalls kept fits recalls)
-
-pub returns-then-not-is_taken-clause-ended : goal.returns-then-not-is_taken-clause-ended
-returns-then-not-is_taken-clause-ended g c = λ kept fits recalls told pairs.
-    let l = c.loop-slot in
-    let fits_read = fits_after c.args.known.journal.now kept l.invariant.reads fits in
-    let fits_take = fits_after c.args.known.journal.now kept c.in_ok-found.ensures.disk.reads fits_read in
-    let refused = OnFalse_at c.if-not-is_taken.true c.in_ok-is_taken.ensures.refused in
-    let so_far = l.invariant.so_far kept fits recalls in
-    file_fails c.args.known.limits.now c.args.known.words.now c.args.known.axioms.now l.files l.slot c.requires.words c.requires.axioms l.invariant.first kept told pairs so_far.spelled
-    so_far.numbered c.in_ok-found.found c.loop-slot-test.true (refused.1 kept fits_take) (c.in_ok-found.ensures.read kept fits_read (l.invariant.recalls kept fits recalls)) so_far.blocks
-
-pub loop-slot-preserved : goal.loop-slot-preserved
-loop-slot-preserved g c =
-    let l = c.loop-slot in
-    let limits = c.args.known.limits.now in
-    let words = c.args.known.words.now in
-    let axioms = c.args.known.axioms.now in
-    let below = c.loop-slot-test.true in
-    let found = c.in_ok-found.found in
-    let next = c.take_file.new.files in
-    let form = c.in_ok-found.ensures.form in
-    let MayBeKept : (ℕ → List ℕ) → Type 0 = Fits c.args.known.journal.now (g.D.Disk.meaning c.read_slot.new.disk) in
-    let taken = OnTrue_at {P = TakesFile limits MayBeKept words axioms.taxonomy l.slot found l.files next} c.if-not-is_taken.false c.in_ok-is_taken.ensures.taken in
-    let read = c.in_ok-found.ensures.disk in
-    let took = c.in_ok-is_taken.ensures.disk in
-    let to_found = reads_then l.invariant.reads read.reads in
-    let faults = read.cause.stays ∙ l.invariant.faults in
-    record {
-      reads = reads_then to_found took.reads;
-      faults = took.cause.stays ∙ faults;
-      first_fault = ends_then (ends_then l.invariant.first_fault l.invariant.faults read.first_fault) faults took.first_fault;
-      first = files_on limits MayBeKept words axioms l.files l.slot l.invariant.first below found next form taken;
-      recalls = λ kept fits recalls. c.in_ok-found.ensures.recalls kept (fits_after c.args.known.journal.now kept l.invariant.reads fits) (l.invariant.recalls kept fits recalls);
-      so_far = λ kept fits recalls.
-          so_far_on limits MayBeKept words axioms l.files l.slot l.invariant.first below kept (fits_after c.args.known.journal.now kept to_found fits) (l.invariant.so_far kept fits recalls) found next form taken
-          (c.in_ok-found.ensures.read kept (fits_after c.args.known.journal.now kept l.invariant.reads fits) (l.invariant.recalls kept fits recalls));
-    }
+pub returns-in-Ok-clause-ended : goal.returns-in-Ok-clause-ended
+returns-in-Ok-clause-ended g c = λ kept fits recalled told pairs.
+    let known = c.args.known in
+    let catalog : IsCatalog c.in-Ok.catalog = search rules in
+    files_pass known.limits.now known.words.now known.axioms.now c.read_records.new.slots c.in_ok-end.end c.requires.words c.requires.axioms c.in_ok-end.ensures.read c.in-Ok.catalog catalog c.in-Ok.ensures.sorted
+    kept told pairs (c.in_ok-end.ensures.ended kept fits recalled told pairs) (omega (arith, c.if-end-known.true))
 
 pub returns-clause-ended : goal.returns-clause-ended
-returns-clause-ended g c = λ kept fits recalls told pairs.
-    let l = c.loop-slot in
+returns-clause-ended g c = λ kept fits recalled told pairs.
     let limits = c.args.known.limits.now in
     let words = c.args.known.words.now in
     let axioms = c.args.known.axioms.now in
-    let all : l.slot ≡ limits.files = omega (arith, c.loop-slot-test.false, l.auto.slot-end) in
-    let so_far = l.invariant.so_far kept fits recalls in
-    record {
-      none = files_pass limits words axioms l.files l.slot c.requires.words c.requires.axioms l.invariant.first kept told pairs so_far.spelled so_far.numbered so_far.blocks all;
-      is = record {
-        spelled = λ n lt. so_far.spelled n (omega (arith, lt, all));
-        blocks = so_far.blocks;
-        described = λ f m.
-            slot_described limits words axioms l.files l.slot c.requires.words c.requires.axioms l.invariant.first kept so_far.numbered f
-            (filed_rec l.files.catalog l.invariant.first.catalog f (among_from_contains l.files.catalog.entries f m));
-      };
-    }
-
-pub returns-in_err-found : goal.returns-in_err-found
-returns-in_err-found g c = search rules
-
-pub returns-in_err-is_taken : goal.returns-in_err-is_taken
-returns-in_err-is_taken g c =
-    let reads = reads_then (reads_then c.loop-slot.invariant.reads c.in_ok-found.ensures.disk.reads) c.take_file.ensures.disk.reads in
-    search (rules, reads)
+    let slots = c.read_records.new.slots in
+    let end = c.in_ok-end.end in
+    let read = c.in_ok-end.ensures.read in
+    let ended = c.in_ok-end.ensures.ended kept fits recalled told pairs in
+    elim c.match-sort.branch [
+      | in-Ok-2 w ↦
+          let below : end < limits.files = omega (arith, read.within, w.if-end-known.false) in
+          let catalog : IsCatalog w.in-Ok.catalog = search rules in
+          subst (λ (n : ℕ). IsFirst limits kept 4 (FileSpot n)) (sym w.slot-is) (end_fails limits words axioms slots end c.requires.words c.requires.axioms read w.in-Ok.catalog catalog w.in-Ok.ensures.sorted kept told pairs ended below)
+      | in-Err w ↦ subst (λ (n : ℕ). IsFirst limits kept 4 (FileSpot n)) (sym w.slot-is) (again_fails limits words axioms slots end c.requires.words c.requires.axioms read kept told pairs ended w.in-Err.again w.in-Err.ensures.again)
+    ]

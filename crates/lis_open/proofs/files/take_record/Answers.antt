@@ -10,24 +10,24 @@ use Rattle.lis_open.proofs.files.take_record.Goals as goal
 pub read_content-requires-clause-below : goal.read_content-requires-clause-below
 read_content-requires-clause-below g c =
     let limits = c.args.known.limits.now in
-    ap (are_below limits.blocks) c.as_slice-all_blocks.ensures.value ∙ free_below limits c.args.files.now.map _ c.requires.map (rw c.in-Some.is at c.in_ok-blocks.ensures.usable).free
+    ap (are_below limits.blocks) c.as_slice-all_blocks.ensures.value ∙ free_below limits c.args.slots.now.map _ c.requires.map (rw c.in-Some.is at c.in_ok-blocks.ensures.usable).free
 
 pub read_content-requires-clause-count : goal.read_content-requires-clause-count
 read_content-requires-clause-count g c = omega (arith, ap length c.as_slice-all_blocks.ensures.value, rw c.in-Some.is at c.in_ok-blocks.ensures.count)
 
 pub describe-requires-clause-below : goal.describe-requires-clause-below
 describe-requires-clause-below g c =
-    tags_below c.args.known.words.now c.args.files.now c.args.rec c.args.known.axioms.now.taxonomy.props c.requires.are c.requires.props (sym c.if-not-may_file.ensures)
+    tags_below c.args.known.words.now c.args.rec c.args.known.axioms.now.taxonomy.props c.requires.are c.requires.props (search rules)
 
 pub file-requires-clause-rise : goal.file-requires-clause-rise
 file-requires-clause-rise g c =
-    described_rise c.args.known.axioms.now.taxonomy (own_numbers c.args.known.words.now.dict c.args.rec.tags (found_words c.args.known.words.now c.args.rec.name c.bytes.result.now)) c.as_slice.result.now
-    (c.as_slice.ensures.value ∙ c.in-Some-describe.ensures.1)
+    described_rise c.args.known.axioms.now.taxonomy (own_numbers c.args.known.words.now.dict c.args.rec.tags (found_words c.args.known.words.now c.args.rec.name c.bytes.result.now)) c.as_slice-in-Some-describe.result.now
+    (c.as_slice-in-Some-describe.ensures.value ∙ c.in-Some-describe.ensures.1)
 
 pub file-requires-clause-in_range : goal.file-requires-clause-in_range
 file-requires-clause-in_range g c =
-    described_in c.args.known.axioms.now.taxonomy (own_numbers c.args.known.words.now.dict c.args.rec.tags (found_words c.args.known.words.now c.args.rec.name c.bytes.result.now)) c.as_slice.result.now
-    c.args.files.now.ext.props (c.requires.ext ∙ sym c.requires.props) (c.as_slice.ensures.value ∙ c.in-Some-describe.ensures.1)
+    described_in c.args.known.axioms.now.taxonomy (own_numbers c.args.known.words.now.dict c.args.rec.tags (found_words c.args.known.words.now c.args.rec.name c.bytes.result.now)) c.as_slice-in-Some-describe.result.now
+    c.args.slots.now.ext.props (c.requires.ext ∙ sym c.requires.props) (c.as_slice-in-Some-describe.ensures.value ∙ c.in-Some-describe.ensures.1)
 
 pub returns-in_default-clause-refused : goal.returns-in_default-clause-refused
 returns-in_default-clause-refused g c = (refl, λ kept fits. NoBlocks (rw c.in_default.is at (c.in_ok-blocks.ensures.found kept fits)))
@@ -51,19 +51,19 @@ pub returns-in-Some-describe-clause-taken : goal.returns-in-Some-describe-clause
 returns-in-Some-describe-clause-taken g c =
     let limits = c.args.known.limits.now in
     let rec = c.args.rec in
-    let files = c.args.files.now in
+    let slots = c.args.slots.now in
     let blocks = c.as_slice-all_blocks.result.now in
     let same = c.as_slice-all_blocks.ensures.value in
     let usable = rw c.in-Some.is at c.in_ok-blocks.ensures.usable in
-    let numbers = c.as_slice.ensures.value ∙ c.in-Some-describe.ensures.1 in
+    let numbers = c.as_slice-in-Some-describe.ensures.value ∙ c.in-Some-describe.ensures.1 in
     record {
       bytes = c.bytes.result.now;
       blocks = blocks;
       sized = ap length c.bytes.ensures.bytes ∙ c.in_ok-read_content.ensures.size;
-      filed = sym c.if-not-may_file.ensures;
+      given = search rules;
       describes = c.in-Some-describe.ensures.0;
-      usable = record { own = usable.own; free = ap (are_free files.map) same ∙ usable.free; distinct = ap are_distinct same ∙ usable.distinct };
-      takes = subst (λ ns. TakesNumbers c.args.slot rec blocks ns files c.file.new.files) numbers c.file.ensures;
+      usable = record { own = usable.own; free = ap (are_free slots.map) same ∙ usable.free; distinct = ap are_distinct same ∙ usable.distinct };
+      takes = subst (λ ns. TakesNumbers c.args.slot rec blocks ns slots c.file.new.slots) numbers c.file.ensures;
       told = λ kept fits.
           let found = rw c.in-Some.is at (c.in_ok-blocks.ensures.found kept fits) in
           let has = c.in_ok-read_content.ensures.words kept (fits_after c.args.known.journal.now kept c.in_ok-blocks.ensures.disk.reads fits) (same ∙ found.1) in

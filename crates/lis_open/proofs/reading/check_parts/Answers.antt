@@ -8,7 +8,7 @@ use Rattle.lis_open.proofs.reading.check_parts.Goals as goal
 
 pub returns-in_err-check_words-clause-disk : goal.returns-in_err-check_words-clause-disk
 returns-in_err-check_words-clause-disk g c =
-    let k = metadata_in c.args.limits.now c.args.words.now c.args.memory.now.axioms c.args.memory.now.files [] in
+    let k = metadata_in c.args.limits.now c.args.words.now c.args.memory.now.axioms c.args.files.now [] in
     let p = err_from_is_err_and c.from_residual.result c.from_residual.ensures.1 in
     record {
       reads = reads_none (g.D.Disk.meaning c.args.disk.now);
@@ -19,18 +19,18 @@ returns-in_err-check_words-clause-disk g c =
 pub returns-in_err-check_words-clause-ended : goal.returns-in_err-check_words-clause-ended
 returns-in_err-check_words-clause-ended g c = λ kept fits recalls passed.
     let p = err_from_is_err_and c.from_residual.result c.from_residual.ensures.1 in
-    rw (p.1, p.2) (words_failed c.args.limits.now kept c.args.words.now c.args.memory.now.axioms c.args.memory.now.files passed.read passed.none c.in_err-check_words.field-0.0 c.in_err-check_words.ensures)
+    rw (p.1, p.2) (words_failed c.args.limits.now kept c.args.words.now c.args.memory.now.axioms c.args.files.now passed.read passed.none c.in_err-check_words.field-0.0 c.in_err-check_words.ensures)
 
 pub returns-in_err-check_bitmap-clause-ended : goal.returns-in_err-check_bitmap-clause-ended
 returns-in_err-check_bitmap-clause-ended g c = λ kept fits recalls passed.
     let p = err_from_is_err_and c.from_residual-in_err-check_bitmap.result c.from_residual-in_err-check_bitmap.ensures.1 in
     rw (p.1, p.2)
-    (bitmap_failed c.args.limits.now kept c.args.words.now c.args.memory.now.axioms c.args.memory.now.files passed.read passed.none c.in_ok-check_words.ensures c.in_err-check_bitmap.field-0.0 (c.in_err-check_bitmap.ensures.ended kept fits))
+    (bitmap_failed c.args.limits.now kept c.args.words.now c.args.memory.now.axioms c.args.files.now passed.read passed.none c.in_ok-check_words.ensures c.in_err-check_bitmap.field-0.0 (c.in_err-check_bitmap.ensures.ended kept fits))
 
 pub check_rows-requires-clause-rest : goal.check_rows-requires-clause-rest
 check_rows-requires-clause-rest g c = λ n slot past.
-    let read : AreRead c.args.limits.now c.args.words.now c.args.memory.now.axioms c.args.memory.now.files [] = assumption (c.requires.read, c.in_ok-check_words.ensures []) in
-    none_past c.args.limits.now c.args.words.now c.args.memory.now.axioms c.args.memory.now.files [] read n slot past
+    let read : AreRead c.args.limits.now c.args.words.now c.args.memory.now.axioms c.args.files.now [] = assumption (c.requires.read, c.in_ok-check_words.ensures []) in
+    none_past c.args.limits.now c.args.words.now c.args.memory.now.axioms c.args.files.now [] read n slot past
 
 pub returns-clause-used : goal.returns-clause-used
 returns-clause-used g c = on_ok c.check_rows.result c.in_ok-check_words.ensures
@@ -38,7 +38,7 @@ returns-clause-used g c = on_ok c.check_rows.result c.in_ok-check_words.ensures
 pub returns-clause-ended : goal.returns-clause-ended
 returns-clause-ended g c = λ kept fits recalls passed.
     let fits1 = fits_after c.args.journal.now kept c.check_bitmap.ensures.disk.reads fits in
-    rows_ended c.args.limits.now kept c.args.words.now c.args.memory.now.axioms c.args.memory.now.files passed.read passed.none c.in_ok-check_words.ensures c.requires.readable.range (c.in_ok-check_bitmap.ensures.ended kept fits)
+    rows_ended c.args.limits.now kept c.args.words.now c.args.memory.now.axioms c.args.files.now passed.read passed.none c.in_ok-check_words.ensures c.requires.readable.range (c.in_ok-check_bitmap.ensures.ended kept fits)
     c.check_rows.result (c.check_rows.ensures.ended kept fits1 recalls)
 
 pub returns-in_err-check_bitmap-clause-disk : goal.returns-in_err-check_bitmap-clause-disk

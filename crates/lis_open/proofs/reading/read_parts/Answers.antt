@@ -1,6 +1,7 @@
 use Rattle.lis_open.proofs.Common.{◌∙◌, ends_then, err_from_is_err_and}
 use Rattle.lis_ports.proofs.OnlyReading.{reads_then}
 use Rattle.lis_open.proofs.AllRead.{none_below, kind_failed, none_recalled, later_cause}
+use Rattle.lis_open.specs.declared.files.Files.{Files}
 use Rattle.lis_open.specs.declared.words.Words.{Words}
 use Rattle.lis_open.proofs.BlocksRead.{fits_after}
 use Rattle.lis_open.proofs.reading.read_parts.Goals as goal
@@ -27,7 +28,7 @@ returns-in-Ok-clause-ended g c = λ kept fits.
 pub returns-in-Err-clause-disk : goal.returns-in-Err-clause-disk
 returns-in-Err-clause-disk g c = record {
   reads = reads_then c.read_words.ensures.disk.reads c.read_later.ensures.disk.reads;
-  cause = later_cause (Unit {0}) Words (g.D.Disk.meaning c.args.disk.now).disk_faults (g.D.Disk.meaning c.read_words.new.disk).disk_faults (g.D.Disk.meaning c.read_later.new.disk).disk_faults c.in-Err.fault c.in_ok-words.ensures.disk.cause c.in-Err.ensures.disk.cause;
+  cause = later_cause Files (Words × Files) (g.D.Disk.meaning c.args.disk.now).disk_faults (g.D.Disk.meaning c.read_words.new.disk).disk_faults (g.D.Disk.meaning c.read_later.new.disk).disk_faults c.in-Err.fault c.in_ok-words.ensures.disk.cause c.in-Err.ensures.disk.cause;
   first_fault = ends_then c.read_words.ensures.disk.first_fault c.in_ok-words.ensures.disk.cause c.read_later.ensures.disk.first_fault;
 }
 

@@ -1,4 +1,4 @@
-use Rattle.lis_open.proofs.Common.{rules, refl, sym, ◌∙◌, arith, ends_none, ends_then}
+use Rattle.lis_open.proofs.Common.{refl, ◌∙◌, arith, ends_none, ends_then}
 use Rattle.lis_ports.proofs.OnlyReading.{reads_none, reads_then}
 use Rattle.lis_open.proofs.BlocksRead.{fits_after}
 use Rattle.lis_open.proofs.WordsRead.{no_slots, slot_on, ended_at, form_there, read_there}

@@ -1,6 +1,5 @@
-use Rattle.lis_open.proofs.Common.{rules, arith, sym, subst, ℕ, ◌<◌, IsDict, Property, err_from_is_err_and}
-use Rattle.lis_open.specs.Reading.{IsFirst, KindFails}
-use Rattle.lis_open.specs.ReadWords.{WordsEnded}
+use Rattle.lis_open.proofs.Common.{rules, arith, sym, subst, ℕ, ◌<◌, IsDict, Property}
+use Rattle.lis_open.specs.Reading.{IsFirst}
 use Rattle.lis_open.proofs.WordsRead.{words_pass, malformed_fails, first_again}
 use Rattle.lis_open.proofs.words.read_words.Goals as goal
 use Rattle.lis_open.proofs.words.read_words.Goals.{in-Ok-2, in-Err}

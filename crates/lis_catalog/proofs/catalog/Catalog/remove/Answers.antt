@@ -1,4 +1,4 @@
-use Rattle.std.proofs.Common.{◌<◌, None, get_or, length, ap, ◌∙◌, arith}
+use Rattle.std.proofs.Common.{◌<◌, None, length, ap, ◌∙◌, arith}
 use Rattle.std.proofs.lemmas.List.{get_or_default}
 use Rattle.lis_catalog.specs.Catalog.{rec_at}
 use Rattle.lis_catalog.proofs.Held.{nothing_gone, seen_at, in_order, in_records, cut_held, cut_same}
