@@ -30,7 +30,7 @@ R = TypeVar("R")
 
 
 class Kept(NamedTuple):
-    """The record of a file that had these times, and the kind of the record."""
+    """The record of a file that had these times, and the rules by which it was made."""
 
     times: Times
     rules: str

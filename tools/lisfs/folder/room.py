@@ -75,7 +75,7 @@ class Room:
             self._known.add(word)
 
     def advice(self, short: Short, files: int, newest: int, can_be_lean: bool) -> list[str]:
-        """A line for each limit that was reached. `newest` files have all their words, and the image has room for `files` files of the folder."""
+        """A line for each limit that was reached. The newest `newest` files are complete, and the image has room for `files` files of the folder."""
         found: list[str] = []
         if short.files:
             found.append(self._line(f"{self.limits.files:,} files", [keeps(files)], self.limits.files < MAX_FILES))
