@@ -63,9 +63,9 @@ class Image(image.Image[File]):
         self.content_bytes = 0
         # The file that waits, or None.
         self.waiting: File | None = None
-        # The files that another client has made, until their attributes are set. Below: how many words a new file may bring, by the words of its
-        # place and its suffix, and how many more there surely is room for.
+        # The files that another client has made, until their attributes are set.
         self.fresh: list[File] = []
+        # How many words a new file may bring, by the words of its place and its suffix, and how many more there surely is room for.
         self.brought: dict[tuple[tuple[bytes, ...] | None, bytes], int] = {}
         self.spare = 0
 
