@@ -29,7 +29,8 @@ refused, has no payload, and the line `@-` follows its reply.
 - A `Program` is for one thread at a time.
 - A caller that forwards the input of others, as a server does, cuts it into commands (`Items`), and forwards bytes.
 - `view` and `put` run the words of these names, and return, or write, a whole view.
-- `tag` and `untag` give words to several files, or take them back, and `undo` undoes their changes. """
+- `tag` and `untag` give words to several files, or take them back, and `undo` undoes their changes.
+"""
 import collections
 import contextlib
 import enum
@@ -409,7 +410,8 @@ class Program(Commands):
     """A program that runs. `command` is its path and its words, and `rooms` says that it serves rooms. The signals `unheard` never reach it, so that
     a caller that gets them too, as from a terminal, can let it finish. If it can't be started, the `OSError` is raised.
 
-    At the end of a `with` block it is closed. A program that is no session, as `lisfs make`, is run by `Program(command).close()`. """
+    At the end of a `with` block it is closed. A program that is no session, as `lisfs make`, is run by `Program(command).close()`.
+    """
 
     # Whether others change the image too, as when a server runs the program (`served.Joined`).
     is_shared = False

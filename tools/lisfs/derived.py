@@ -1,7 +1,8 @@
 """The words that a file has automatically, as the program derives them by docs/MODEL.md: from its name, its size and its bytes, at most 48.
 
 The program keeps no word beyond these, and does not say that there were more. This module reads a file again to count how many it would have, so that
-a tool can say which search may miss it. Only the program decides which words a file has. """
+a tool can say which search may miss it. Only the program decides which words a file has.
+"""
 from __future__ import annotations
 
 import re

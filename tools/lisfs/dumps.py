@@ -65,7 +65,8 @@ class Dump:
 def read_dump(stream: IO[bytes], with_digests: bool = False) -> Dump:
     """Reads a dump from a binary stream: `mkdir`, `add`, `mv` and `axiom` lines.
 
-    The bytes of files are skipped, so that a large image takes little memory. A `mv` is read as a dump has it: from the root to a place of words. """
+    The bytes of files are skipped, so that a large image takes little memory. A `mv` is read as a dump has it: from the root to a place of words.
+    """
     dump = Dump()
     while line := stream.readline():
         words = line.split()
@@ -138,7 +139,8 @@ def opened_by(look: Callable[[], Dump], start: Callable[[], Program], image: str
     """What an image holds, and a program that runs over it, by these functions.
 
     Nobody has the lock between the end of the dump and the session's first reply. So the image's time of change shows whether anybody wrote it since
-    the dump began; it is then dumped again. The first opening can write too, if it replays the journal. """
+    the dump began; it is then dumped again. The first opening can write too, if it replays the journal.
+    """
     for _ in range(tries):
         before, dump, program = settled(image), look(), start()
         if before == times_of(image) and counts_in(program.first().stat().body)["files"] == len(dump.files):

@@ -1,7 +1,8 @@
 """Formulas: which files each matches. This is the only parser of the grammar in the package.
 
 The grammar is that of docs/MODEL.md. A formula is parsed here only to find files by it. The program decides which words a listing shows, and what a
-change does. """
+change does.
+"""
 from __future__ import annotations
 
 import functools

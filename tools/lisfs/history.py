@@ -21,7 +21,8 @@ state, with new names of files first. If two lines contradict, the last one hold
     a LEFT RIGHT       there is this axiom
     x LEFT RIGHT       there is not
 
-A refusal by `:guard` is the line `no 00 changed by another client`, and nothing is changed. """
+A refusal by `:guard` is the line `no 00 changed by another client`, and nothing is changed.
+"""
 import collections
 import os
 from collections.abc import Callable, Iterator, Sequence

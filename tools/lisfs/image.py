@@ -1,7 +1,8 @@
 """An open image: the session that runs over it, and what is known of it, updated with each command that ran.
 
 The image is locked by the session, so nobody else changes it; or it is served, and then `catch_up` applies what others have changed. Between two
-calls the session's place is the root, where all files are. """
+calls the session's place is the root, where all files are.
+"""
 import contextlib
 import struct
 from collections.abc import Iterable, Iterator, Sequence

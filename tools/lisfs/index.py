@@ -1,5 +1,6 @@
 """Which words each file has: for each word a row of bits, a Python integer, in which each file has a bit. So the number of files of a place that have
-a word is one `&` and a count of bits, and thousands of words are counted in milliseconds. """
+a word is one `&` and a count of bits, and thousands of words are counted in milliseconds.
+"""
 from __future__ import annotations
 
 import itertools

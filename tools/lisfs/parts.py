@@ -1,7 +1,8 @@
 """Views of the lines of a file, and edited views that are put back, as the words `view` and `put` of the program do it; also of a served image.
 
 A served image is open already, so these words can't open it. The file's bytes then go through a separate image, which has this one file: the program
-makes the view there, and puts the edited view back, and the server's image gets the resulting bytes. """
+makes the view there, and puts the edited view back, and the server's image gets the resulting bytes.
+"""
 import os
 from typing import NamedTuple
 

@@ -1,7 +1,8 @@
 """A client of a served image: a session at the socket that `tools/serve IMAGE` has beside the image.
 
 It is used like a program that has the image alone. Others change the image too: `news` returns what they have changed since the last call, so that
-what is known of the image stays true (`history` has the lines), and after `guard` a change of a file that another client has changed is refused. """
+what is known of the image stays true (`history` has the lines), and after `guard` a change of a file that another client has changed is refused.
+"""
 import contextlib
 import os
 import socket

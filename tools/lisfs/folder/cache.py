@@ -3,7 +3,8 @@
 A file counts as unchanged if its path, its size, its inode number and its times of modification and of change are the same, and if these times were
 old enough then that each later change gets other times. All of it is only a cache: a record that is missing, damaged, of another folder or of another
 version of the readers is ignored, and made again. The cache is in `$XDG_CACHE_HOME/lisfs`, or else in `~/.cache/lisfs`, may be removed at any time,
-and only its owner may read it. """
+and only its owner may read it.
+"""
 import contextlib
 import functools
 import hashlib

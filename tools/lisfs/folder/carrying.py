@@ -1,7 +1,8 @@
 """The commands that make changes in an image, many sent ahead of their replies.
 
 A folder's own file is removed, written and given other words only at the place of the folder's marker: a file without this word is not there, so the
-program itself protects all other files. """
+program itself protects all other files.
+"""
 import collections
 import contextlib
 import fcntl

@@ -2,7 +2,8 @@
 
 A folder's own files in an image have its marker, a word `sync:NAME`. On these files, values of the heads in `HEADS` are the folder's too: somebody
 gave them all their other words, which stay. The records of `memory` say what was brought in: what changed only in the folder is brought in, what
-changed only in the image stays, and what changed on both sides is a conflict, which is left. """
+changed only in the image stays, and what changed on both sides is a conflict, which is left.
+"""
 import enum
 import hashlib
 import os

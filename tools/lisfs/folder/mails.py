@@ -6,7 +6,8 @@
 - `about:` and each word of its Subject that has three letters or digits and a letter, and carries meaning.
 
 Anybody can send a mail, so its cost is bounded: only a bounded number of bytes, lines and letters of a field is read, each a few times, and only a
-bounded number goes to Python's own `email` package, which takes quadratic time. """
+bounded number goes to Python's own `email` package, which takes quadratic time.
+"""
 from __future__ import annotations
 
 import calendar

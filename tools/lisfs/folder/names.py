@@ -2,7 +2,8 @@
 
 A file is named after its path below the folder, with `+` between two parts, if the path can be told from these bytes. Otherwise the name is as much
 of the path as fits, from its end, and a digest of the whole path: `PATH-DIGEST.SUFFIX`. A mail of a maildir is named `SUBJECT-DIGEST.eml`, with the
-digest of its Message-ID, or of its path if it has none. """
+digest of its Message-ID, or of its path if it has none.
+"""
 import hashlib
 import os
 import re

@@ -2,7 +2,8 @@
 
 Files come in one after the other, the newest first, and each takes its room before it is sent. So what comes in does not depend on which replies have
 come by then. Some of the words that an image may know are kept free for the person. The program is asked which words it knows only if there may be
-too many. """
+too many.
+"""
 from collections.abc import Iterable, Mapping
 from fractions import Fraction
 from typing import NamedTuple

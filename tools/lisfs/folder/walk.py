@@ -4,7 +4,8 @@ A folder with `cur` and `new` in it is a maildir, and so is one below with these
 folders `.NAME.NAME`, whose names are decoded as mail programs write them.
 
 No symbolic link below the folder is followed: each part of a path is opened in the folder before it, so that this holds even if somebody replaces a
-folder by a link meanwhile. """
+folder by a link meanwhile.
+"""
 import base64
 import contextlib
 import dataclasses

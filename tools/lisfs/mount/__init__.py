@@ -6,4 +6,5 @@
 - `shown`: which words a folder shows, so that a program that walks all folders comes to an end.
 - `tree`: the calls of a file system, answered from an image, whatever way they come.
 - `kernel`: the kernel's protocol: the messages of /dev/fuse.
-- `attach`: how it is mounted on a folder, and unmounted. """
+- `attach`: how it is mounted on a folder, and unmounted.
+"""

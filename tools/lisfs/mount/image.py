@@ -4,7 +4,8 @@ Each change is one command of the program, and is applied here once its `ok` has
 those of many files at once, and so are the derived words of files that existed at the start.
 
 A new file that is being written is known here earlier: it waits for its bytes, so that one `add` makes it whole, since `create` and `write` would be
-two changes. It waits only if nothing can keep the program from making it, and until anything else must be changed or asked. """
+two changes. It waits only if nothing can keep the program from making it, and until anything else must be changed or asked.
+"""
 import collections
 import errno
 import functools
@@ -463,7 +464,8 @@ class Image(image.Image[File]):
         """Removes the declaration of a word that no file has, and that belongs to a place. Another word that nothing here has is left as it is.
 
         Words below it are removed too if they lost their last file and were in no listing since: while all files of a folder had such a word, it
-        narrowed nothing, so whoever removed these files never saw it. """
+        narrowed nothing, so whoever removed these files never saw it.
+        """
         inner = place.step(word)
         if self.extension(inner):
             raise OSError(errno.ENOTEMPTY, "files are here")

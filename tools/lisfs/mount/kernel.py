@@ -2,7 +2,8 @@
 
 It knows nothing about images. The handlers have the methods of `Handlers` (`tree.Tree` is one); an `OSError` that they raise is the answer. The
 device is any descriptor with one message per read and per write, so tests use a pair of sockets. The layouts are those of linux/fuse.h, protocol 7,
-as of minor 23: later minors add to them and change none. """
+as of minor 23: later minors add to them and change none.
+"""
 import enum
 import errno
 import os

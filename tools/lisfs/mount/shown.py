@@ -2,7 +2,8 @@
 
 A listing of the program has each word that narrows a place, so that the same files appear again for each order of their words. Here a folder shows
 all of these only near its beginning: the mounted folder, `:by`, or a formula that no listing shows, such as `!live`. Below, it shows the words that
-entail its last one, as the values of a head, and each file that these don't cover. What a listing leaves out opens by its name. """
+entail its last one, as the values of a head, and each file that these don't cover. What a listing leaves out opens by its name.
+"""
 from __future__ import annotations
 
 from lisfs.formulas import Word

@@ -5,7 +5,8 @@ which sees two links, writes in place. What is written is kept as a draft, which
 the image when somebody closes the file or syncs it. Programs that opened the file at the same path see the draft, as they expect of each other; at
 other paths they see the bytes of the image, so that `cp music/x x` reads them although it emptied its own target.
 
-It is for one thread. An `OSError` is the answer if something is not allowed. """
+It is for one thread. An `OSError` is the answer if something is not allowed.
+"""
 from __future__ import annotations
 
 import errno

@@ -5,7 +5,8 @@
 2. A change is undone only if the image is in this state again, or still: the same declared words, axioms and files with their sizes and the words
    that they were given, and the same bytes of a file that would be removed. So no later work is lost, whoever did it.
 3. Bytes of files are not kept: removed or overwritten bytes would be outside the image. For such a change the file has only the line.
-4. For a served image nothing is kept, since others change it meanwhile. """
+4. For a served image nothing is kept, since others change it meanwhile.
+"""
 from __future__ import annotations
 
 import contextlib

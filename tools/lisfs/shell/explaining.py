@@ -1,7 +1,8 @@
 """Refusals of the program, as a sentence for a person, with the word or the name that each is about.
 
 The program returns a number. Which of several words it is about is found out here, from what is known of the image and by asking the program; if that
-is impossible, the sentence names the words of the line. """
+is impossible, the sentence names the words of the line.
+"""
 import difflib
 import shlex
 from collections.abc import Callable, Iterable, Sequence

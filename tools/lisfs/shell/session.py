@@ -2,7 +2,8 @@
 
 Which files the image has, and which words they were given, is known from its dump, and later from the commands that ran. All words of a file are in
 the index that the tools share: `props` returns them again after each change. So the files of a place are looked up there, by the program's text of
-the place. Each change is kept with what undoes it. """
+the place. Each change is kept with what undoes it.
+"""
 import collections
 import contextlib
 from collections.abc import Callable, Iterable, Iterator, KeysView, Sequence

@@ -8,4 +8,5 @@
 - `pages`: the pages, made from what `image` returns.
 - `site`: who may send requests, and which page or change is requested.
 - `connections`: many clients at once, none of which delays another one.
-- `style.css`, `script.js`, `icon.svg`: all that a browser gets besides the pages. """
+- `style.css`, `script.js`, `icon.svg`: all that a browser gets besides the pages.
+"""

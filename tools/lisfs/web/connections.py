@@ -3,7 +3,8 @@
 A connection has one request and one answer. The head of a request has a bounded length; its body is read only if the site has admitted the head, and
 has the length that the head says. A request that is not complete after some seconds is closed. If too many connections are open, one makes room for a
 new one: first one without an admitted request, so that a client that only connects keeps nobody out. A request is answered whole before the next one:
-the program runs one command after the other. """
+the program runs one command after the other.
+"""
 import contextlib
 import email.utils
 import http

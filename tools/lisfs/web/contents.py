@@ -1,6 +1,7 @@
 """Which of a file's bytes a page shows: a mail by its header and its text parts, a text as it is, and nothing of what is not text.
 
-Whatever the bytes are, it takes linear time, and a fraction of a second, since other pages wait meanwhile; and it returns only text. """
+Whatever the bytes are, it takes linear time, and a fraction of a second, since other pages wait meanwhile; and it returns only text.
+"""
 import email.errors
 import email.header
 import email.message

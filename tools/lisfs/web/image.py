@@ -1,7 +1,8 @@
 """An open image as the pages need it: what a page asks the program, the changes, and the index, which is updated with them.
 
 The program decides what a place is, and what it shows. The index says how many files each word leaves, and which files the place has. Each time the
-two are compared: the files that no word covers must be those that the program shows, and each word must leave some files and not all. """
+two are compared: the files that no word covers must be those that the program shows, and each word must leave some files and not all.
+"""
 import functools
 import hashlib
 from collections.abc import Callable, Collection, Iterable, Mapping, Sequence

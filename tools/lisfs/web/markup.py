@@ -1,7 +1,8 @@
 """HTML from templates, in which all that is not markup is escaped, and the addresses of pages.
 
 A template writes its values only by `{{ }}`, and there each value is a text: invisible characters are made visible, and then it is escaped. No
-template turns that off, and each attribute that shows a value is in quotes (`tools/tests/test_browse_parts.py` checks this). """
+template turns that off, and each attribute that shows a value is in quotes (`tools/tests/test_browse_parts.py` checks this).
+"""
 from __future__ import annotations
 
 import functools

@@ -1,7 +1,8 @@
 """A place as a page shows it: its steps, and for each the parts that `|` joins, so that each can be taken out, negated and joined separately.
 
 It is made from the program's text of a place (`pwd`), so a step with `|` is in parentheses and `!` binds one part. The program decides what the texts
-that are made here mean. """
+that are made here mean.
+"""
 from lisfs.formulas import formula
 from lisfs.index import File, Index
 from lisfs.words import WORD

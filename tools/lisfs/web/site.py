@@ -5,7 +5,8 @@ The address has a token. The answer to it is a cookie and a redirect, so that th
 random too, to which the cookie is bound: a browser sends a cookie to each port of a machine, and so to another user's server there, but not below
 another path. A form has a separate token, since a browser sends the cookie with every request.
 
-No path of a request is ever the path of a file: each page is in a table. """
+No path of a request is ever the path of a file: each page is in a table.
+"""
 import hmac
 import http.server
 import io
