@@ -1,4 +1,4 @@
-"""Made mails, the same each time: their headers have encoded words in Latin-1 and UTF-8."""
+"""Synthetic mails, the same each time: their headers have encoded words in Latin-1 and UTF-8."""
 import email.header
 import os
 import random
@@ -11,7 +11,7 @@ BOXES = ["", ".Work", ".Work.Plans", ".Lists.dev", ".Entw&APw-rfe", ".Archive"]
 
 
 def encoded(text, chance):
-    """A text of a header, encoded where it has to be, in one of the ways that are met."""
+    """A text of a header, encoded if necessary, in one of the usual ways."""
     charset = "utf-8" if any(ord(letter) > 255 for letter in text) else chance.choice(["utf-8", "iso-8859-1"])
     return email.header.Header(text, None if text.isascii() else charset, maxlinelen=76).encode()
 

@@ -1,7 +1,7 @@
-"""Runs of the program, which must end by themselves, however much else the machine has to do.
+"""Runs of the program, which must end on their own, however busy the machine is.
 
-So no run is measured by the clock. One that takes more than MOST seconds of a processor is ended, and so is one of which each process did
-nothing at all between two looks and waits neither for a processor nor for a disk.
+So no run is limited by the clock. A run that takes more than MOST seconds of processor time is ended, and so is one of which each process did nothing
+between two checks and waits neither for a processor nor for a disk.
 """
 import concurrent.futures
 import functools
@@ -19,7 +19,7 @@ MOST, LOOK = 60, 60
 
 
 class Ran(typing.NamedTuple):
-    """How a run ended: its exit code, or what ended it, and its bytes and its text on both streams."""
+    """How a run ended: its exit status, or what ended it, and its bytes and its text on both streams."""
     code: typing.Union[int, str]
     out: bytes
     error: str
@@ -29,7 +29,7 @@ class Ran(typing.NamedTuple):
 
 
 def program_in(words):
-    """The path of the program, which the first of these words is where there is one."""
+    """The path of the program, which is the first of these words if it names one."""
     program = os.path.abspath(words[0]) if words else os.path.join(TOP, "crates/lisfs/out/lisfs")
     if not os.path.exists(program):
         sys.exit("build the program first: ./lisfs try 64 64 8 </dev/null")
@@ -37,7 +37,7 @@ def program_in(words):
 
 
 def waits(session):
-    """How often each process of a session waited so far, where all of them wait now, and for no disk; else None."""
+    """How often each process of a session has waited so far, if all of them wait now, and none for a disk; else None."""
     seen = {}
     for process in filter(str.isdigit, os.listdir("/proc")):
         try:
@@ -52,7 +52,7 @@ def waits(session):
 
 
 def run(program, words, data=b"", closed=(), prepare=None, most=MOST, **more):
-    """Runs a program with this input, with some standard streams closed, and behind what prepares its process."""
+    """Runs a program with this input, with some standard streams closed, after a function has prepared its process."""
     def before():
         resource.setrlimit(resource.RLIMIT_CPU, (most, most + 1))
         if prepare:
@@ -96,6 +96,6 @@ def in_folder(task, item):
 
 
 def side_by_side(task, items):
-    """What a task gives for each item, each in an empty folder, and as many at once as there are processors."""
+    """The result of a task for each item, each in an empty folder, and as many in parallel as there are processors."""
     with concurrent.futures.ProcessPoolExecutor(len(os.sched_getaffinity(0)), multiprocessing.get_context("fork")) as pool:
         return list(pool.map(functools.partial(in_folder, task), items))

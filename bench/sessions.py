@@ -1,7 +1,7 @@
 """Sessions as bytes: where their commands end, how each is replied to, and how a program is fed with them.
 
-A session stands in a folder as three files: NAME.in is the input, NAME.args one line with the words behind the image of `make` (FILES PROPS
-BLOCKS, and v2 for version 2), and NAME.out the bytes that it shows from an empty image.
+A session is three files of a folder: NAME.in is the input, NAME.args one line with the arguments of `make` after the image (FILES PROPS BLOCKS, and
+v2 for version 2), and NAME.out the bytes that it shows from an empty image.
 """
 import bisect
 import itertools
@@ -37,7 +37,7 @@ def in_folder(folder):
 
 
 def ends_of(data, longest=LINE):
-    """Where each command of an input ends, behind its last line feed, where a line has at most so many bytes. One that only the end of the input
+    """Where each command of an input ends, after its last line feed, if a line has at most this many bytes. A command that only the end of the input
     ends is not counted."""
     ends, at = [], 0
     while (feed := data.find(b"\n", at)) >= 0:
@@ -45,7 +45,7 @@ def ends_of(data, longest=LINE):
         is_long = len(line) > longest
         parts = [] if is_long else WORD.findall(line[:-1] if line.endswith(b"\r") else line)
         if len(parts) > 2 and parts[0] in (b"add", b"write") and COUNT.fullmatch(parts[2]):
-            # What stands behind a payload up to a line feed belongs to it.
+            # The bytes after a payload up to a line feed belong to it.
             feed = data.find(b"\n", at + int(parts[2]))
             if feed < 0:
                 break
@@ -56,7 +56,7 @@ def ends_of(data, longest=LINE):
 
 
 def replies_of(shown):
-    """The whole replies at the front of what was shown."""
+    """The complete replies at the start of what was shown."""
     replies, at, start = [], 0, 0
     while (feed := shown.find(b"\n", at)) >= 0:
         line, at = shown[at:feed], feed + 1
@@ -80,7 +80,7 @@ class Feed:
         self.out, self._ended = bytearray(), None
 
     def give(self, data, is_enough):
-        """Gives all of it, and waits until what was shown is enough, or until the program has ended."""
+        """Sends all of it, and waits until what was shown is enough, or until the program has ended."""
         left, waited = memoryview(data), None
         while self._ended is None and (left or not is_enough(self.out)):
             reads, writes, _ = select.select([self._child.stdout], [self._ours] if left else [], [], runs.LOOK)
@@ -106,7 +106,7 @@ class Feed:
             self._ended = ""
 
     def end(self):
-        """Ends the input, and gives how the program ended."""
+        """Ends the input, and returns how the program ended."""
         if self._terminal:
             self.give(b"\4", lambda _: True)
         else:
@@ -122,7 +122,7 @@ class Feed:
 
 
 def fed(program, line, pieces, dues):
-    """Feeds a program with pieces, each only when so many bytes were shown behind the one before as are due for it."""
+    """Feeds a program with pieces, each only when as many bytes were shown as are due after the one before."""
     feed = Feed(program, line)
     for piece, due in zip(pieces, dues):
         feed.give(piece, lambda out, due=due: len(out) >= due)
@@ -130,10 +130,10 @@ def fed(program, line, pieces, dues):
 
 
 def cut(data, places):
-    """The input in pieces, cut at these places."""
+    """The input in pieces, cut at these offsets."""
     return [data[start:end] for start, end in itertools.pairwise([0, *places, len(data)]) if start < end]
 
 
 def whole_in(ends, pieces):
-    """How many commands lie whole in the input up to the end of each piece."""
+    """How many commands are complete in the input up to the end of each piece."""
     return [bisect.bisect_right(ends, place) for place in itertools.accumulate(map(len, pieces))]

@@ -1,4 +1,4 @@
-"""Stands for the test support of the tools: who imports this gets that package, which is in `tools/tests/support`."""
+"""A proxy for the test support of the tools: importing this gives that package, which is in `tools/tests/support`."""
 import importlib
 import os
 import sys

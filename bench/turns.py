@@ -1,22 +1,21 @@
-"""Figures of one program, or of two by turns, and the tables and aims that they are shown in.
+"""Figures of one program, or of two alternately, and the tables and aims that show them.
 
-What is measured on a machine goes up and down with what else is at work there. So where two programs are compared, each figure is taken by
-turns, A B A B .., and the ratio of the first one's to the other's says more than either. Where a program has not got a word, a dash stands in
-the place of its figure.
+Measurements on a machine vary with its other work. So if two programs are compared, each figure is measured alternately, A B A B .., and the ratio of
+the first to the other says more than either. If a program lacks a word, a dash replaces its figure.
 """
 import re
 import subprocess
 import typing
 
 DASH = "–"
-# The program, and behind it the one that stands beside it, if there is one.
+# The program, and after it the one that it is compared with, if any.
 PROGRAMS = []
 AIMS = []
 
 
 class Program(typing.NamedTuple):
     path: str
-    # What tells its files from those of the other one.
+    # What distinguishes its files from those of the other program.
     mark: str
     usage: str
 
@@ -38,12 +37,12 @@ def middle(figures):
 
 
 def chosen(figures, choose):
-    """What is chosen of some figures, or of each column of them where they are tuples."""
+    """The chosen one of some figures, or of each column of them if they are tuples."""
     return tuple(map(choose, zip(*figures))) if isinstance(figures[0], tuple) else choose(figures)
 
 
 def rounds(count, takes):
-    """What each of these calls gives, in so many rounds in which each has its turn: a list for each."""
+    """The results of each of these functions in a number of rounds, in which each has its turn: a list for each."""
     taken = [[] for _ in takes]
     for _ in range(count):
         for figures, take in zip(taken, takes):
@@ -52,7 +51,7 @@ def rounds(count, takes):
 
 
 def by_turns(count, take, choose=middle):
-    """What is chosen, for each program, of what the call gives for it in so many rounds."""
+    """The chosen result of the function for each program, in a number of rounds."""
     return [chosen(figures, choose) for figures in rounds(count, [lambda program=program: take(program) for program in PROGRAMS])]
 
 
@@ -62,12 +61,13 @@ def with_word(word):
 
 
 def head(name):
-    """The columns of a figure: this program's, and where another one stands beside it its figure and the ratio."""
+    """The columns of a figure: this program's, and if another one is compared with it, its figure and the ratio."""
     return [name] if len(PROGRAMS) == 1 else [name, "of the other", "ratio"]
 
 
 def cells(figures, form):
-    """The cells of a figure of each program, None where there is none. What is less than an opening differs by has no ratio."""
+    """The cells of a figure of each program, None if there is none. A figure that is not positive has no ratio: it is within the variation of an
+    opening."""
     shown = [DASH if figure is None else format(figure, form) for figure in figures]
     return shown if len(PROGRAMS) == 1 else shown + [DASH if None in figures or min(figures) <= 0 else f"{figures[0] / figures[1]:.2f}"]
 
@@ -89,12 +89,12 @@ def row(*parts):
 
 
 def aim(text, figure, bound, at_least=False):
-    """Notes a figure with what it should be at most, or at least, to be told at the end. None of them is demanded."""
+    """Notes a figure with its upper bound, or lower bound, to be printed at the end. None of them is required."""
     AIMS.append((text, figure, bound, figure >= bound if at_least else figure <= bound, "least" if at_least else "most"))
 
 
 def aim_beside(text, figures, bound):
-    """The same of the ratio of this program's figure to the other's, where there is one."""
+    """The same for the ratio of this program's figure to the other's, if there is one."""
     if len(figures) == 2 and None not in figures and figures[1] > 0:
         aim(text, figures[0] / figures[1], bound)
 

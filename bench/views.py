@@ -1,4 +1,4 @@
-"""What `view` shows of a content, and what `put` makes of an edited view, worked out by lists and apart from the program.
+"""What `view` shows of a content, and what `put` makes of an edited view, computed with lists and independently of the program.
 
 It knows the refusals 5 and 7 of a formula, and 26 and 27 of an edited view: those that need no image.
 """
@@ -31,7 +31,7 @@ def words_of(text):
 
 
 class Reader:
-    """Reads a formula: nodes are a word or a test in bytes, or a sign and its one or two operands."""
+    """Parses a formula: nodes are a word or a test in bytes, or a sign and its one or two operands."""
 
     def __init__(self, text):
         self.text, self.at = text, 0
@@ -142,7 +142,7 @@ def view_of(content, formula):
 
 
 def edited(content, formula, view):
-    """The content that an edited view of it makes."""
+    """The content that an edited view of the old content makes."""
     marks = marks_of(pieces_of(content, formula)[0])
     lines, _ = lines_of(view)
     is_open = lines[-1:] == [b"!"]

@@ -1,7 +1,7 @@
-"""The words of the program, a row each: what a script must know of one to try it. A further word is a row here.
+"""The words of the program, a row each: what a script must know about a word to try it. A new word is a row here.
 
-A row speaks of the sample image, of LIMITS, on which SAMPLE was carried out. The forms of the words stand in the usage text of the program
-alone (`forms_of`). `.ci/edges`, `bench/crashes`, `bench/memory` and `bench/hostile` read both.
+A row is about the sample image, of LIMITS, on which SAMPLE ran. The forms of the words are only in the usage text of the program (`forms_of`).
+`.ci/edges`, `bench/crashes`, `bench/memory` and `bench/hostile` read both.
 """
 import re
 import typing
@@ -13,28 +13,28 @@ SAMPLE = b"mkdir music\nmkdir rock\nmkdir year:\naxiom rock music\ncreate song r
 # A session that looks at what the rows change.
 LOOK = b"ls\nstat\ncat notes.txt\nprops notes.txt\nprops tune\n"
 
-# What becomes of the image: there is none; it is an empty one; it is as any opening leaves it, and so but for the byte of its version; or
-# its state is another one.
+# The image afterwards: there is none; it is an empty one; it is as any opening leaves it, or so except the byte of its version; or its state is
+# another one.
 NO_IMAGE, MADE, OPENED, UPGRADED, CHANGED = "no image", "an empty image", "an opened image", "an image of version 2", "a changed image"
 # What an input is: a session, one of several rooms, or an edited view.
 SESSION, ROOMS, VIEW = "session", "rooms", "view"
 
 
 class Word(typing.NamedTuple):
-    """A word, the words behind it or behind its image, and what comes of them."""
+    """A word, its arguments or those after its image, and their effects."""
     name: str
     leaves: str
     behind: tuple = ()
-    # What the input is, and its parts, each of which is carried out before the next one is looked at; nothing where no input is taken.
+    # The kind of the input, and its parts, each of which runs before the next one is read; empty if no input is read.
     reads: str = ""
     parts: tuple = ()
     shows: bytes = b""
-    # How many parts are carried out at most before the first of their replies begins to show.
+    # The most parts that run before the first of their replies begins to show.
     ahead: int = 1
     # A session that looks at what was changed, and what it shows.
     look: bytes = b"stat\n"
     looks: bytes = b""
-    # Words behind it, or behind its image, that are in no form.
+    # Malformed arguments, or arguments after its image.
     wrong: tuple = ()
 
     @property
@@ -50,7 +50,7 @@ class Word(typing.NamedTuple):
         return [self.name, *([] if self.leaves == NO_IMAGE else [image]), *self.behind]
 
     def wrongs(self, image):
-        """Words that are in no form, each from those that are in form by one change."""
+        """Malformed words, each made from well-formed ones by one change."""
         right = self.words(image)
         yield from (right[:number] for number in range(1, len(right)))
         yield right + ["x"]
@@ -77,13 +77,13 @@ WORDS = (
          b"ok\n@7\nok\n@0\nok\n@0\nw music\nok\n@0\nw /\nok\n@7\nok\n@7\nd ext:\nd jazz\nd music\nd size:empty\nd size:small\nok\n@7\nno 01 bad line\n@-\nok\n@7\n",
          look=b"cat hi\nprops tune\n", looks=b"b 2\nhi\nok\np jazz\np music\np size:\np size:empty\nok\n"),
     Word("view", OPENED, ("notes.txt", "word:alpha"), shows=b"+alpha one\n@1 2\n+alpha two\n!\n", wrong=NO_NAMES),
-    # Its whole input is one part: it is read to its end before any of it is looked at.
+    # Its whole input is one part: it is read to its end before any of it is checked.
     Word("put", CHANGED, ("notes.txt", "word:alpha"), VIEW, (b"+alpha 1\n@1 2\n+alpha 2\n+end\n",), b"ok\n",
          look=b"cat notes.txt\n", looks=b"b 26\nalpha 1\nbeta\n\nalpha 2\nend\n\nok\n", wrong=NO_NAMES),
 )
 
 
-# What a word of a form may be, where it is written large there.
+# The valid values of a word in capital letters in a form.
 KINDS = {
     "IMAGE": lambda text: True,
     "FILES": lambda text: number_of(text) in [1 << k for k in range(6, 13)],
@@ -95,7 +95,7 @@ KINDS = {
 }
 
 
-# What wrong use says of a word that is none of these.
+# What wrong use says about a word outside these.
 RANGES = {
     "FILES": "a power of two from 64 to 4096",
     "PROPS": "a multiple of 64 from 64 to 8192",
@@ -106,12 +106,12 @@ RANGES = {
 
 
 def number_of(text):
-    """The number that a text is, or one that is never in range."""
+    """The number in a text, or one that is never in range."""
     return int(text) if re.fullmatch("[0-9]{1,12}", text) else -1
 
 
 def forms_of(usage):
-    """The forms in a usage text, each a list of words: those that are written large have a kind, and the others stand as they are."""
+    """The forms in a usage text, each a list of words: those in capital letters have a kind, and the others are literal."""
     forms = []
     for line in usage.splitlines()[1:]:
         words = line.split()[1:]
@@ -126,7 +126,7 @@ def is_form(forms, words):
 
 
 def told_of(usage, words):
-    """What wrong use of these words tells, by the text with all forms: what is out of its range, and the forms of the word."""
+    """What wrong use of these words says, by the text with all forms: what is out of its range, and the forms of the word."""
     head, *lines = usage.splitlines(keepends=True)
     own = [line for line in lines if words and line.split()[1] == words[0]]
     if not own:

@@ -1,4 +1,4 @@
-"""The tools over an image. They use the built program alone, and nothing of them is proved.
+"""The tools for images. They use only the built program, and are not proved.
 
 What all tools share, each module using those above it:
 
@@ -8,9 +8,9 @@ What all tools share, each module using those above it:
 - `formulas`: the one reader of formulas.
 - `showing`: text that does nothing to a terminal.
 - `client`: one run of the program.
-- `endings`: what one line says of an error that has ended a tool.
+- `endings`: the line that says which error has ended a tool.
 - `dumps`: what an image holds at the start.
-- `index`: which file has which word.
+- `index`: which words each file has.
 - `image`: an open image, and the index in step with it.
 - `derived`: how many words a file would have on its own if none were cut.
 

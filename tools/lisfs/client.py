@@ -1,4 +1,4 @@
-"""Speaks to a program that carries out sessions, as `lisfs run IMAGE` and `lisfs rooms IMAGE` do: commands out, replies in.
+"""Runs a program that runs sessions, as `lisfs run IMAGE` and `lisfs rooms IMAGE` do: it sends commands and receives replies.
 
     with Program([PROGRAM, "run", "files.lis"]) as program:
         program.mkdir(b"music")
@@ -10,27 +10,26 @@
         first.cd(b"music")
         print(second.pwd().body)
 
-The protocol. A command is a line of words with a blank between two, of at most 1,024 bytes. Behind an `add` or `write` line whose third
-word is a count N stand its payload, N bytes whatever they are, and a line feed. Each command has one reply, and replies come in the order
-of the commands. A reply is body lines and then the line `ok`, or it is the one line `no NN WORDS`: a refusal, and nothing was changed. A
-body line is a letter, a blank and a text. The reply of `cat` is the line `b N`, the N bytes, a line feed and `ok`.
-What `run` has begun to reply to is kept. The program ends with 0 at the end of its input. At a fault, as where it can't open its image, it
-ends with another status, in the middle of anything, and says why on standard error.
-`rooms` carries out the sessions of eight rooms, each with a place of its own, as one. A line begins with the tag of its room, `@` and a digit
-from 0 to 7, and a blank, which count among its bytes, and behind its reply stands the line of the tag. A line of more bytes, or without a
-tag, is of no room: it is refused, has no payload, and the line `@-` stands behind its reply.
+The protocol. A command is a line of words separated by blanks, of at most 1,024 bytes. After an `add` or `write` line whose third word is a count N
+follow its payload, N arbitrary bytes, and a line feed. Each command has one reply, and replies come in the order of the commands. A reply is body
+lines and then the line `ok`, or the single line `no NN WORDS`: a refusal, which changed nothing. A body line is a letter, a blank and a text. The
+reply of `cat` is the line `b N`, the N bytes, a line feed and `ok`. A command whose reply `run` has begun is durable. The program exits with status 0
+at the end of its input. After a fault, for example if it can't open its image, it exits with another status, at any point, and says why on standard
+error. `rooms` runs the sessions of eight rooms, each with its own place, as one. A line begins with the tag of its room, `@` and a digit from 0 to 7,
+and a blank, which count among its bytes, and the line of the tag follows its reply. A line of more bytes, or without a tag, belongs to no room: it is
+refused, has no payload, and the line `@-` follows its reply.
 
-- A reply is handed out only when it is there whole. A refusal is raised as `Refused`, with its number. The end of the program is raised
-  as `Ended`, with its status and what it said; as `Locked`, which is an `Ended` too, where another program has the image's lock.
-- What would be another command than the one that was meant is not sent: `NotSent` is raised before the first byte goes out.
-- A line goes out whole or not at all, also where this process is killed, since a half line at the end of the input is a line. Of a cut
-  payload the program makes nothing.
-- Any number of commands can be sent ahead (`send`) before a reply is received (`receive`): while the program takes no more, its replies
-  are read and kept in memory. `ask`, and the call for each command, send one and receive its reply.
+- A reply is returned only when it is complete. A refusal is raised as `Refused`, with its number. The end of the program is raised as `Ended`, with
+  its status and what it said; as `Locked`, a subclass of `Ended`, if another program has the image's lock.
+- Bytes that would be another command than the one that was meant are not sent: `NotSent` is raised before the first byte is written.
+- A line is written whole or not at all, even if this process is killed, since a half line at the end of the input is a line. The program ignores a
+  cut payload.
+- Any number of commands can be sent ahead (`send`) before a reply is received (`receive`): while the program reads no more input, its replies are
+  read and kept in memory. `ask`, and the method of each command, send one and receive its reply.
 - A `Program` is for one thread at a time.
-- What speaks for somebody else, as a server does, cuts what it was given into commands (`Items`), and hands on bytes.
-- `view` and `put` run the words of these names, and hand out, or write, a whole view.
-- `tag` and `untag` give words to several files, or take them back, and `undo` undoes what these made.
+- A caller that forwards the input of others, as a server does, cuts it into commands (`Items`), and forwards bytes.
+- `view` and `put` run the words of these names, and return, or write, a whole view.
+- `tag` and `untag` give words to several files, or take them back, and `undo` undoes their changes.
 """
 import collections
 import contextlib
@@ -58,32 +57,32 @@ CHECKOUT = os.path.dirname(os.path.dirname(os.path.dirname(os.path.abspath(__fil
 PROGRAM = os.environ.get("LISFS_PROGRAM") or os.path.join(CHECKOUT, "crates/lisfs/out/lisfs")
 # The most bytes of a line of a room without its tag.
 ROOM_LINE = MAX_LINE - len(b"@0 ")
-# What `tools/serve` tells one client too many.
+# What `tools/serve` says to one client too many.
 FULL = b"full: eight clients are here\n"
-# What the name of the socket of a served image has after that of the image.
+# What follows the name of an image in the name of the socket of its server.
 SOCKET = ".socket"
-# No line of a reply is as long.
+# Every line of a reply is shorter.
 SHOWN = 2_048
 # How long a program that has closed its output may take to end, in seconds.
 PATIENCE = 60
 COUNT = re.compile(rb"[0-9]{1,%d}" % MAX_DIGITS)
 WORD = re.compile(rb"[^ \t]+")
 NO_WORD = re.compile(rb"[ \t\r\n]")
-# What a view is. Few tools look at one, so it is not compiled here.
+# The form of a view. Few tools look at one, so it is not compiled here.
 VIEW = rb"(?:\+[^\n]*\n|@[1-9][0-9]* [1-9][0-9]*\n)*(?:!\n)?"
 BODY_LINE = re.compile(rb"([a-z]) (.*)")
 CONTENT_LINE = re.compile(rb"b (0|[1-9][0-9]{0,6})")
 REFUSAL_LINE = re.compile(rb"no ([0-9]{2}) (.+)")
-# The line of a tag, and each front of it.
+# The line of a tag, and each prefix of it.
 TAG_LINE = re.compile(rb"(@([0-7-]\n?)?)?")
 TAG_SIZE = len(b"@0\n")
 
 
-# A word of a command of the system: a path, or what a program is given.
+# A word of a system command: a path, or an argument.
 Word: TypeAlias = str | bytes
 # The letter and the text of a body line. It is a plain pair, since there are thousands of them.
 BodyLine: TypeAlias = tuple[bytes, bytes]
-# The bytes of a whole reply, and the tag behind it, if the program has tags. It is a plain pair too.
+# The bytes of a whole reply, and the tag that follows it, if the program has tags. It is a plain pair too.
 Tagged: TypeAlias = tuple[bytes, bytes | None]
 
 
@@ -116,7 +115,7 @@ Reply: TypeAlias = Lines | Content
 
 
 class Item(NamedTuple):
-    """The bytes of a command: its line, and its payload, each with its line feed. Without a payload there are no bytes of it."""
+    """The bytes of a command: its line, and its payload, each with its line feed. Without a payload these bytes are empty."""
 
     line: bytes
     payload: bytes
@@ -130,12 +129,12 @@ class End(NamedTuple):
 
 
 def socket_of(image: str) -> str:
-    """Where an image is served, if it is: beside the file, also if a link leads to it."""
+    """The socket of an image's server, if there is one: beside the file, also if a link leads to the file."""
     return (os.path.realpath(image) if os.path.islink(image) else image) + SOCKET
 
 
 def missing() -> str | None:
-    """What to do if the program is not there, else None."""
+    """What to do if the program is missing, else None."""
     if os.path.exists(PROGRAM):
         return None
     if os.path.exists(os.path.join(CHECKOUT, "crates.txt")):
@@ -148,7 +147,7 @@ class Refused(Exception):
 
     def __init__(self, number: int, words: str) -> None:
         super().__init__(f"no {number:02} {words}")
-        # `command`, and the words behind it, are noted if several were sent ahead of their replies.
+        # `command`, and the words of the command, are set if several commands were sent ahead of their replies.
         self.number, self.words, self.command = number, words, ""
         self.given: tuple[bytes, ...] = ()
 
@@ -162,7 +161,7 @@ class Ended(Exception):
 
 
 class Locked(Ended):
-    """The program has ended, or a lock was not had, since another program has the lock of the image."""
+    """The program has ended, or a lock could not be taken, since another program has the lock of the image."""
 
 
 def ended(status: int, text: str) -> Ended:
@@ -175,16 +174,16 @@ class NotSent(ValueError):
 
 
 class NotAReply(Exception):
-    """What was shown is no reply, so this is no program of that kind. No later reply can be told."""
+    """What the program showed is no reply, so this is no program of that kind. No later reply can be recognized."""
 
 
 def words_of(line: bytes) -> list[bytes]:
-    """The words of a line, which is given without its line feed. One CR at its end is no part of them."""
+    """The words of a line, which is given without its line feed. A CR at its end is not part of them."""
     return WORD.findall(line.removesuffix(b"\r"))
 
 
 def count_of(words: Sequence[bytes]) -> bytes | None:
-    """The word of a line that counts the bytes of the payload behind it, or None where none follows."""
+    """The word of a line that counts the bytes of the payload after it, or None if no payload follows."""
     return words[2] if len(words) > 2 and words[0] in (b"add", b"write") and COUNT.fullmatch(words[2]) else None
 
 
@@ -207,27 +206,27 @@ def item(words: Sequence[bytes], payload: bytes | None = None, longest: int = MA
 
 
 class Items:
-    """Cuts an input into commands as `lisfs run` does, where a line has at most so many bytes. A line without words is none. A line is judged
-    without a CR at its end, and handed on with it: the program drops one itself, and would judge another line where one was dropped before.
-    What is kept of a command has the same reply as all of it: of a line that is too long its first bytes, in place of a payload that is too
-    large the smallest such one, and of what stands behind a payload in place of a line feed one byte. For a caller that runs longer lines
-    itself, lines of up to `whole` bytes are handed on whole."""
+    """Cuts an input into commands as `lisfs run` does, whose lines have at most `longest` bytes. A line without words is no command. A line is
+    measured without a CR at its end, and passed on with it: the program drops one CR itself, so if one were dropped before, it would judge another
+    line. What is kept of a command has the same reply as all of it: the first bytes of a line that is too long, the smallest payload that is too
+    large instead of a larger one, and one byte of what follows a payload instead of a line feed. For a caller that runs longer lines itself, lines of
+    up to `whole` bytes are passed on whole."""
 
     def __init__(self, longest: int = MAX_LINE, whole: int = 0) -> None:
-        # What was not taken, without the line that a payload follows, which stands by itself.
+        # What was not taken, without the line that a payload follows, which is kept separately.
         self._longest, self._whole, self._given = longest, max(longest, whole), bytearray()
         self._line: bytes | None = None
-        # Of this payload so many bytes are kept, and so many still to be dropped, with these in their place.
+        # How many bytes of this payload are kept, how many are still to be dropped, and the bytes that replace these.
         self._kept, self._dropped, self._in_place = 0, 0, b""
 
     def feed(self, data: bytes) -> None:
         self._given += data
 
     def take(self) -> Item | None:
-        """The line and the payload of the first command, each with its line feed, or None where it isn't there whole."""
+        """The line and the payload of the first command, each with its line feed, or None if it is not complete."""
         while self._line is None:
             if (end := self._given.find(b"\n")) < 0:
-                # So many bytes tell that a line is too long.
+                # These bytes are enough to see that a line is too long.
                 del self._given[self._whole + 1:]
                 return None
             line = bytes(self._given[:min(end, self._whole + 1)])
@@ -242,11 +241,11 @@ class Items:
         return self._with_payload(self._line)
 
     def is_cut(self) -> bool:
-        """Where no command can be taken: whether the input, if it ends here, ends within a payload."""
+        """If no command can be taken: whether the input, if it ends here, ends within a payload."""
         return self._line is not None and (self._dropped > 0 or len(self._given) < self._kept)
 
     def lacks_feed(self) -> bool:
-        """Where no command can be taken: whether the input, if it ends here, lacks a line feed and nothing else."""
+        """If no command can be taken: whether the input, if it ends here, lacks a line feed and nothing else."""
         return bool(self._given) if self._line is None else not self.is_cut()
 
     def _await_payload(self, line: bytes, count: int) -> None:
@@ -263,7 +262,7 @@ class Items:
         if self.is_cut():
             return None
         if (end := self._given.find(b"\n", self._kept)) < 0:
-            # Behind a wrong byte all is dropped up to a line feed.
+            # After a wrong byte all is dropped up to a line feed.
             del self._given[self._kept + 1:]
             return None
         payload = self._in_place + self._given[:min(end, self._kept + 1)]
@@ -273,14 +272,14 @@ class Items:
 
 
 class Replies:
-    """Cuts what a program shows into replies. Where it has tags, the line of one stands behind each."""
+    """Cuts what a program shows into replies. If it has tags, the line of a tag follows each."""
 
     def __init__(self, has_tags: bool = False) -> None:
-        # What was not taken, and how many of its bytes are whole lines of the first reply.
+        # What was not taken, and how many of its bytes are complete lines of the first reply.
         self.shown, self.at, self._has_tags = bytearray(), 0, has_tags
 
     def take(self) -> Tagged | None:
-        """The first reply and its tag, or None where they aren't there whole."""
+        """The first reply and its tag, or None if they are not complete."""
         while (end := self.shown.find(b"\n", self.at)) >= 0:
             line, end = bytes(self.shown[self.at:end]), end + 1
             if line == b"ok" or self.at == 0 and REFUSAL_LINE.fullmatch(line):
@@ -347,14 +346,14 @@ def counts_in(body: list[BodyLine]) -> dict[str, int]:
 
 
 class Commands:
-    """Something that can be asked commands: a call for each. The words are bytes, and so is a content."""
+    """An object that runs commands, with a method for each. The words are bytes, and so is a content."""
 
     def ask(self, *words: bytes, payload: bytes | None = None) -> Reply:
         """Sends a command and receives its reply."""
         raise NotImplementedError
 
     def lines(self, *words: bytes, payload: bytes | None = None) -> Lines:
-        """The same of a command whose reply has lines."""
+        """The same for a command whose reply has lines."""
         return as_lines(self.ask(*words, payload=payload))
 
     def mkdir(self, word: bytes) -> Lines: return self.lines(b"mkdir", word)
@@ -385,16 +384,15 @@ def unnamed_file() -> IO[bytes]:
 
 
 class Stream(Protocol):
-    """Where commands go, or where replies come from."""
+    """Where commands are written, or where replies are read."""
 
     def fileno(self) -> int: ...
     def close(self) -> None: ...
 
 
 def begun(command: Sequence[Word], given: int, said: IO[bytes], unheard: Collection[signal.Signals], buffer: int) -> subprocess.Popen[bytes]:
-    """A program that has begun. What it says on standard error is kept in a file, which never fills up as a pipe would. The signals `unheard`
-    never reach it."""
-    # They are held back while it begins, so that none that is ours is lost, as where they were ignored here meanwhile.
+    """A program that was started. Its standard error goes to a file, which never fills up as a pipe would. The signals `unheard` never reach it."""
+    # They are blocked while it starts, so that no signal for this process is lost, as it would be if they were ignored meanwhile.
     before = signal.pthread_sigmask(signal.SIG_BLOCK, unheard)
 
     def begin() -> None:
@@ -409,13 +407,13 @@ def begun(command: Sequence[Word], given: int, said: IO[bytes], unheard: Collect
 
 
 class Program(Commands):
-    """A program that runs. `command` is its path and its words, and `rooms` says that it serves rooms. The signals `unheard` never reach it,
-    so that who gets them with it, as from a terminal, can let it come to its end. Where it can't be started, the `OSError` of that is raised.
+    """A program that runs. `command` is its path and its words, and `rooms` says that it serves rooms. The signals `unheard` never reach it, so that
+    a caller that gets them too, as from a terminal, can let it finish. If it can't be started, the `OSError` is raised.
 
-    At the end of a `with` block it is closed. One that is no session, as `lisfs make`, is run by `Program(command).close()`.
+    At the end of a `with` block it is closed. A program that is no session, as `lisfs make`, is run by `Program(command).close()`.
     """
 
-    # Whether others change the image too, as where a server runs the program (`served.Joined`).
+    # Whether others change the image too, as when a server runs the program (`served.Joined`).
     is_shared = False
 
     def __init__(self, command: Sequence[Word], rooms: bool = False, unheard: Collection[signal.Signals] = ()) -> None:
@@ -430,7 +428,7 @@ class Program(Commands):
         self._input, self._output, self.longest = given, shown, longest
         self._has_rooms, self._replies, self._is_cut = rooms, Replies(rooms), False
         self._end: End | None = None
-        # The parts that were not written yet, and the tag that is to stand behind each reply that was not received.
+        # The parts that were not written yet, and the expected tag of each reply that was not received.
         self._unsent: collections.deque[bytes | memoryview] = collections.deque()
         self._awaited: collections.deque[bytes | None] = collections.deque()
 
@@ -438,23 +436,24 @@ class Program(Commands):
         return self
 
     def __exit__(self, kind: type[BaseException] | None, *_: object) -> None:
-        # An error of the block is not hidden by the end of the program.
+        # The end of the program does not hide an error of the block.
         with contextlib.suppress(Ended) if kind else contextlib.nullcontext():
             self.close()
 
     def news(self) -> "News | None":
-        """What others have changed since this was asked last, or None if that is nothing, as of an image that a program has alone."""
+        """What others have changed since the last call, or None if nothing, as for an image that no server shares."""
         return None
 
     def guard(self) -> None:
-        """From now on no file is changed that another client has changed after what is known. Of an image alone there is none."""
+        """From now on a change of a file that another client has changed since the last known change is refused. If no server shares the image, there
+        is no other client."""
 
     def room(self, number: int) -> "Room":
-        """The room of this number, which can be asked commands."""
+        """The room of this number, which can run commands."""
         return Room(self, number)
 
     def first(self) -> Commands:
-        """What can be asked commands: this, or the first of its rooms."""
+        """What can run commands: this, or the first of its rooms."""
         return self.room(0) if self._has_rooms else self
 
     def ask(self, *words: bytes, payload: bytes | None = None, room: int | None = None) -> Reply:
@@ -465,23 +464,22 @@ class Program(Commands):
         return self.receive()
 
     def send(self, *words: bytes, payload: bytes | None = None, room: int | None = None) -> None:
-        """Sends a command ahead. Its reply is received later, behind those of the commands before it, of whatever rooms."""
+        """Sends a command ahead. Its reply is received later, after those of all commands before it, in any room."""
         if self._has_rooms and room is None:
             raise NotSent("a command of no room")
         self.send_bytes(*item(words, payload, self.longest), room)
 
     def receive(self) -> Reply:
-        """Waits for the next reply. Raises `Refused` where it is a refusal."""
+        """Waits for the next reply. Raises `Refused` if it is a refusal."""
         return reply_of(self.receive_bytes())
 
     def received_lines(self) -> Lines:
-        """The same where the reply has lines."""
+        """The same for a reply that has lines."""
         return as_lines(self.receive())
 
     def send_bytes(self, line: bytes, payload: bytes = b"", room: int | None = None, wait: bool = True) -> None:
-        """Sends bytes as they are: one command that has one reply, with its line feeds, behind the tag of a room where one is given. Also
-        where this raises `Ended`, earlier replies can still be received. Without `wait`, what the program doesn't take now is kept in
-        memory, and `push` sends it."""
+        """Sends bytes as they are: one command that has one reply, with its line feeds, after the tag of a room if one is given. Even if this raises
+        `Ended`, earlier replies can still be received. Without `wait`, what the program doesn't read now is kept in memory, and `push` sends it."""
         if room is not None and not (self._has_rooms and room in range(ROOMS)):
             raise NotSent(f"there is no room {room}")
         if self._end:
@@ -491,7 +489,7 @@ class Program(Commands):
         tag = b"@-" if room is None or len(line) > ROOM_LINE + 1 else b"@%d" % room
         line = line if room is None else b"@%d " % room + line
         self._is_cut = True
-        # A pipe takes so many bytes whole or not at all.
+        # A pipe takes at most this many bytes whole or not at all.
         self._unsent += [line + payload] if len(line) + len(payload) <= select.PIPE_BUF else [line, payload]
         while self.push() and wait:
             self._make_way()
@@ -499,7 +497,7 @@ class Program(Commands):
         self._is_cut = False
 
     def push(self) -> bool:
-        """Sends what the program takes now of what was kept. Whether something is left."""
+        """Sends as much of what was kept as the program reads now. Returns whether something is left."""
         if self._end:
             raise self._ending()
         while self._unsent:
@@ -522,7 +520,7 @@ class Program(Commands):
     def receive_bytes(self, wait: bool) -> bytes | None: ...
 
     def receive_bytes(self, wait: bool = True) -> bytes | None:
-        """The bytes of the next reply, also of a refusal, without its tag. Without `wait`, None where it isn't there whole now."""
+        """The bytes of the next reply, also of a refusal, without its tag. Without `wait`, None if it is not complete now."""
         while (taken := self._replies.take()) is None:
             if not self._end and not self._awaited and wait:
                 raise RuntimeError("no command waits for a reply")
@@ -538,16 +536,16 @@ class Program(Commands):
         return whole
 
     def fileno(self) -> int:
-        """Where replies come from, to wait for one by `select`. A reply may have been read before: `receive_bytes(wait=False)` tells."""
+        """The descriptor of the replies, for `select`. A reply may have been read before: `receive_bytes(wait=False)` returns it."""
         return self._output.fileno()
 
     def input_fileno(self) -> int:
-        """Where commands go, to wait by `select` until `push` can send more."""
+        """The descriptor of the commands, to wait by `select` until `push` can send more."""
         return self._input.fileno()
 
     def close(self) -> None:
-        """Ends the input, and waits until the program has carried out all that was sent. Raises `Ended` where its status is not 0.
-        Replies that were not received still can be."""
+        """Ends the input, and waits until the program has run all that was sent. Raises `Ended` if its status is not 0. Replies that were not
+        received can still be received."""
         while not self._end and not self._is_cut and self.push():
             self._make_way()
         end = self._ending()
@@ -555,21 +553,22 @@ class Program(Commands):
             raise end
 
     def kill(self) -> None:
-        """Ends the program at once, in the middle of anything. What it has replied to is kept."""
+        """Kills the program at once, at any point. The commands that it has replied to are durable."""
         self._child.kill()
         self._ending()
 
     def kill_after(self, seconds: float) -> None:
-        """From now on the program has so long to end, whatever is waited for meanwhile, and is killed then. What it has replied to is kept."""
+        """From now on the program has this many seconds to end, whatever is waited for meanwhile, and is then killed. The commands that it has
+        replied to are durable."""
         kill_after(self._child, seconds)
 
     def _make_way(self) -> None:
-        """Waits until the program takes more. It may do so only when somebody reads what it shows."""
+        """Waits until the program reads more. It may do so only when somebody reads what it shows."""
         if self._is_readable(None, or_writable=True) and not self._read():
             raise self._ending()
 
     def _is_readable(self, seconds: float | None, or_writable: bool = False) -> bool:
-        """Whether there is something to read, or the end. Waits so long for it, or until something can be written."""
+        """Whether there is something to read, or the end. Waits for it up to the given time, or until something can be written."""
         poll, given, shown = select.poll(), self._input.fileno(), self._output.fileno()
         if or_writable:
             poll.register(given, select.POLLOUT)
@@ -578,17 +577,17 @@ class Program(Commands):
         return bool(dict(poll.poll(None if seconds is None else seconds * 1_000)).get(shown, 0) & ~select.POLLOUT)
 
     def _write(self, data: bytes | memoryview) -> int:
-        """Sends what is taken now. How many bytes that is."""
+        """Writes as much as is taken now. Returns how many bytes that is."""
         return os.write(self._input.fileno(), data)
 
     def _read(self) -> bool:
-        """Takes in what is shown, after waiting for it. Whether there was more than the end."""
+        """Reads what is shown, after waiting for it. Returns whether there was more than the end."""
         data = os.read(self._output.fileno(), 65_536)
         self._replies.shown += data
         return bool(data)
 
     def _ending(self) -> Ended:
-        """The error that tells the end of the program, which is waited for where it has not come."""
+        """The error for the end of the program, after waiting for it if necessary."""
         if not self._end:
             self._end = self._finished()
         return ended(*self._end)
@@ -642,7 +641,7 @@ class Retagged(NamedTuple):
     refused: list[tuple[Retag, Refused]]
 
 
-# It is asked after each change whether to go on.
+# Called after each change: whether to go on.
 GoOn: TypeAlias = Callable[[Retagged], bool]
 
 
@@ -651,8 +650,8 @@ def always(_: Retagged) -> bool:
 
 
 def tag(program: Commands, given: Mapping[bytes, Collection[bytes]], words: Iterable[bytes], go_on: GoOn = always) -> Retagged:
-    """Gives files words: `given` has of each file the words that it was given, and a file that has all of these is no change. It begins and
-    ends at the root."""
+    """Gives files words: `given` has the words that each file was given, and a file that already has all the words is not changed. It begins and ends
+    at the root."""
     return retag(program, gains_of(given, words), go_on)
 
 
@@ -681,8 +680,8 @@ def losses_of(given: Mapping[bytes, Collection[bytes]], words: Iterable[bytes]) 
 
 
 def retag(program: Commands, changes: Iterable[Retag], go_on: GoOn = always) -> Retagged:
-    """Makes changes, each by one `mv` from the place of the words that the file loses, so that a stop leaves a file as it was before or as it
-    is after. It goes on after a refusal, as long as `go_on` says so."""
+    """Makes changes, each by one `mv` from the place of the words that the file loses, so that if it is stopped, each file is as before or as after
+    its change. After a refusal it goes on as long as `go_on` returns true."""
     changes = [part for change in changes for part in parts_of(change)]
     for word in (word for change in changes for word in change.gains + change.loses):
         if not is_word(word):
@@ -715,9 +714,9 @@ def parts_of(change: Retag) -> list[Retag]:
 
 
 def shown_by(command: Sequence[Word], data: bytes = b"") -> bytes:
-    """What a program shows that reads this input and ends. Raises `Ended` where its status is not 0."""
+    """What a program shows that reads this input and ends. Raises `Ended` if its status is not 0."""
     with unnamed_file() as given:
-        # Where this process is killed, a pipe would end early, and the program take a part for the whole.
+        # If this process is killed, a pipe would end early, and the program would take a part for the whole.
         given.write(data)
         given.seek(0)
         ran = subprocess.run(command, stdin=given, capture_output=True, check=False)
@@ -727,7 +726,7 @@ def shown_by(command: Sequence[Word], data: bytes = b"") -> bytes:
 
 
 def view(image: Word, name: Word, formula: Word) -> bytes:
-    """The view of a file's lines that satisfy a formula, as `lisfs view` shows it. Raises `Refused` where it is a refusal."""
+    """The view of a file's lines that satisfy a formula, as `lisfs view` shows it. Raises `Refused` if it is refused."""
     shown = shown_by([PROGRAM, "view", image, name, formula])
     if not re.fullmatch(VIEW, shown):
         only_reply(shown)
@@ -736,12 +735,12 @@ def view(image: Word, name: Word, formula: Word) -> bytes:
 
 
 def put(image: Word, name: Word, formula: Word, edited: bytes) -> None:
-    """Writes a file by an edited view of it, as `lisfs put` does. Raises `Refused` where it is a refusal."""
+    """Writes a file by an edited view of it, as `lisfs put` does. Raises `Refused` if it is refused."""
     only_reply(shown_by([PROGRAM, "put", image, name, formula], edited))
 
 
 def only_reply(shown: bytes) -> Reply:
-    """The one reply that some bytes are."""
+    """The single reply in some bytes."""
     replies = Replies()
     replies.shown += shown
     if not (taken := replies.take()) or replies.shown:
@@ -751,7 +750,7 @@ def only_reply(shown: bytes) -> Reply:
 
 @contextlib.contextmanager
 def held(image: str) -> Iterator[None]:
-    """Holds the lock of an image while the block runs, so that no program writes it in the meantime. Raises `Locked` where one has it."""
+    """Holds the lock of an image while the block runs, so that no program writes it in the meantime. Raises `Locked` if another program has it."""
     with open(image, "rb") as file:
         try:
             fcntl.flock(file, fcntl.LOCK_EX | fcntl.LOCK_NB)
@@ -761,13 +760,13 @@ def held(image: str) -> Iterator[None]:
 
 
 def kill_after(child: subprocess.Popen[bytes], seconds: float) -> None:
-    """From now on a program has so long to end, whatever is waited for meanwhile, and is killed then."""
+    """From now on a program has this many seconds to end, whatever is waited for meanwhile, and is then killed."""
     timer = threading.Timer(seconds, child.kill)
     timer.daemon = True
     timer.start()
 
 
-# What is given a call by which a program that was begun has so many seconds to end.
+# Called with a function that gives the started program a number of seconds to end.
 Heed: TypeAlias = Callable[[Callable[[float], None]], None]
 
 
@@ -777,8 +776,8 @@ def no_heed(_: Callable[[float], None]) -> None:
 
 @contextlib.contextmanager
 def shown(command: Sequence[Word], unheard: Collection[signal.Signals] = (), heed: Heed = no_heed) -> Iterator[IO[bytes]]:
-    """What a program shows that takes no commands, as `lisfs dump IMAGE`: a binary stream, to be read in the block. Raises `Ended` where its
-    status is not 0, also in the place of an error of the block, since what was shown is then cut off."""
+    """What a program shows that takes no commands, as `lisfs dump IMAGE`: a binary stream, to be read in the block. Raises `Ended` if its status is
+    not 0, also instead of an error of the block, since what was shown is then cut off."""
     with unnamed_file() as said, begun(command, subprocess.DEVNULL, said, unheard, -1) as child:
         assert child.stdout
         heed(functools.partial(kill_after, child))

@@ -1,7 +1,7 @@
-"""The words that a file has by itself, as the program derives them by docs/MODEL.md: of its name, its size and its bytes, the first 48 alone.
+"""The words that a file has automatically, as the program derives them by docs/MODEL.md: from its name, its size and its bytes, at most 48.
 
-The program keeps no word beyond these, and does not say that there were more. This reads a file once more to tell how many it would have, so that
-a person can be told which search may miss it. What a file has is the program's to say: nothing here is asked for that.
+The program keeps no word beyond these, and does not say that there were more. This module reads a file again to count how many it would have, so that
+a tool can say which search may miss it. Only the program decides which words a file has.
 """
 from __future__ import annotations
 
@@ -12,7 +12,7 @@ from typing import Literal, TypeAlias
 from lisfs.constants import BUILT_IN_HEADS, MAX_ASSIGNED, MAX_DERIVED, MAX_DESCRIPTION, MAX_WORD, MEDIUM_FILE, SMALL_FILE
 from lisfs.words import PLAIN_BYTES, PLAIN_RUN, head_of, is_built_in, is_head
 
-# So many bytes are looked at here for more words than a file has, so that no file takes long: what is told is the least.
+# The most bytes that are searched for more words than a file has, so that no file takes long: the count is a lower bound.
 LOOKED = 131_072
 # The heads of words that bytes give.
 HEADS = frozenset(BUILT_IN_HEADS) - {b"ext:", b"size:"}
@@ -21,15 +21,14 @@ SIZES = ((0, b"size:empty"), (SMALL_FILE - 1, b"size:small"), (MEDIUM_FILE - 1, 
 FIELD = re.compile(rb"([!-9;-~]+):")
 JOINT = re.compile(rb"\\\r?\n")
 KEYWORDS = frozenset((b"if", b"for", b"while", b"switch", b"return", b"sizeof"))
-# The pieces of a source, each by its first bytes. A literal ends with its byte, before a line feed or at the end.
+# The tokens of a source, each by its first bytes. A literal ends with its closing byte, before a line feed or at the end.
 PIECE = re.compile(rb"(?P<blank>[ \t]+)|(?P<feed>\n)|(?P<white>[\v\f\r]+)|(?P<identifier>[A-Za-z_][A-Za-z0-9_]*)|(?P<number>[0-9][A-Za-z0-9_.]*)"
                    rb"|(?P<comment>/\*.*?(?:\*/|\Z)|//[^\n]*)|(?P<literal>\"(?:[^\"\\\n]|\\[^\n])*\\?\"?|'(?:[^'\\\n]|\\[^\n])*\\?'?)|(?P<mark>.)", re.S)
 # The end of the last line of a header, before the empty line.
 HEADER_END = re.compile(rb"\n\r?\n")
 PATH = re.compile(rb"<([^>\n]*)>|\"([^\"\n]*)\"")
-# What a piece of a source is: the path of an include, or what a group of `PIECE` names. And where it stands: at the beginning of a line, behind
-# the `#` of a directive, behind its `include`, in another directive, or elsewhere. There is one for each token, and an enum would take twice
-# the time.
+# What a piece of a source is: the path of an include, or what a group of `PIECE` names. And where it is: at the beginning of a line, after the `#` of
+# a directive, after its `include`, in another directive, or elsewhere. There is one for each token, and an enum would take twice the time.
 Kind: TypeAlias = str
 Context: TypeAlias = Literal["start", "hash", "include", "directive", "code"]
 # The path of an include, or a token outside directives.
@@ -37,11 +36,11 @@ Entry: TypeAlias = tuple[Kind, bytes]
 
 
 def derived_words(name: bytes, content: bytes) -> list[bytes]:
-    """The words that a file of this name and these bytes would have by itself, each once, in the order in which the program takes them. Of a
-    long file those of its beginning."""
+    """The words that a file of this name and these bytes would have automatically, each once, in the order in which the program takes them. For a
+    long file, those of its beginning."""
     suffix, size = suffix_of(name), len(content)
     if size > LOOKED:
-        # No part of a token is taken for one.
+        # A token that is cut off is dropped.
         content = content[:LOOKED].rstrip(PLAIN_BYTES)
     found = [b"ext:" + suffix] if suffix else []
     found.append(next((word for most, word in SIZES if size <= most), b"size:large"))
@@ -58,18 +57,18 @@ def has_many(name: bytes) -> bool:
 
 
 def is_full(words: Iterable[bytes]) -> bool:
-    """Whether a file with these words may have so many by itself that others were cut."""
+    """Whether a file has as many derived words as the program keeps, so that others may have been cut."""
     return sum(head_of(word) in HEADS and not is_head(word) for word in words) >= MAX_DERIVED - 3
 
 
 def told_of_cut(name: bytes, content: bytes) -> str | None:
-    """How many of its words a file has, where some are cut, or None."""
+    """How many derived words a file would have, if some are cut, or None."""
     count = len(derived_words(name, content)) if has_many(name) else 0
     return f"{MAX_DERIVED} of at least {count:,} words that it has on its own: a search for one of the others misses it" if count > MAX_DERIVED else None
 
 
 def told_of_misses(words: Iterable[bytes], described: Iterable[tuple[bytes, Iterable[bytes]]]) -> str | None:
-    """What is to be told of a search by some words, where it can miss a file: the files are pairs of a name and all words. Else None."""
+    """What a search by some words must say if it can miss a file, or None. The files are pairs of a name and all words."""
     missing = [word for word in words if head_of(word) in HEADS]
     count = sum(has_many(name) and is_full(had) for name, had in described) if missing else 0
     if not count:
@@ -79,12 +78,12 @@ def told_of_misses(words: Iterable[bytes], described: Iterable[tuple[bytes, Iter
 
 
 def has_no_room(given: Collection[bytes], words: Collection[bytes]) -> bool:
-    """Whether a file that was given these words, and has those, can be given no more, or hardly: a value brings its head too."""
+    """Whether a file with these given words and these words can be given no more, or hardly any: a value brings its head too."""
     return len(given) >= MAX_ASSIGNED or len(words) > MAX_DESCRIPTION - 2
 
 
 def told_of_no_room(given: Collection[bytes], words: Collection[bytes]) -> str | None:
-    """How many words such a file has, since others may have been left out when it was read from a folder, or None."""
+    """How many words such a file has, since others may have been left out when a folder was imported, or None."""
     if not has_no_room(given, words):
         return None
     count = f"{MAX_ASSIGNED} words that it was given, the most" if len(given) >= MAX_ASSIGNED else f"{len(words)} words in all, of at most {MAX_DESCRIPTION}"
@@ -92,7 +91,7 @@ def told_of_no_room(given: Collection[bytes], words: Collection[bytes]) -> str |
 
 
 def told_of_left_out(words: Iterable[bytes], files: Iterable[tuple[Collection[bytes], Collection[bytes]]]) -> str | None:
-    """What is to be told of a search by words that files are given: the files are pairs of the words that they were given and of all words."""
+    """What a search by words that files are given must say. The files are pairs of the given words and all words."""
     wanted = {word for word in words if not is_built_in(word)}
     found = [(given, had) for given, had in files if has_no_room(given, had)] if wanted else []
     missing = sorted(word for word in wanted if any(word not in given and word not in had for given, had in found))
@@ -104,7 +103,7 @@ def told_of_left_out(words: Iterable[bytes], files: Iterable[tuple[Collection[by
 
 
 def suffix_of(name: bytes) -> bytes | None:
-    """What stands behind the last full stop of a name, or None."""
+    """What follows the last full stop of a name, or None."""
     found = SUFFIX.fullmatch(name)
     return found[1] if found else None
 
@@ -151,8 +150,8 @@ def depth_after(depth: int, text: bytes, opening: bytes, closing: bytes) -> int:
 
 
 def is_defined(entries: Sequence[Entry], at: int) -> bool:
-    """Whether what stands behind an identifier makes it a definition: a parenthesis, and a brace behind the one that closes it. No identifier
-    between these two is judged, so that each entry is passed over once."""
+    """Whether what follows an identifier makes it a definition: a parenthesis, and a brace after the matching one. No identifier between these two is
+    judged, so that each entry is read once."""
     depth, is_closed = 0, False
     while at < len(entries):
         kind, text = entries[at]

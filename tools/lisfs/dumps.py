@@ -1,4 +1,4 @@
-"""What an image holds, read out of the session that makes it again, as `lisfs dump IMAGE` shows it."""
+"""What an image holds, read from the session that makes it again, as `lisfs dump IMAGE` shows it."""
 import os
 import signal
 import time
@@ -7,9 +7,9 @@ from typing import IO, NamedTuple, Protocol
 
 from lisfs.client import PROGRAM, Heed, Program, counts_in, no_heed, shown
 
-# The clock by which changes are noted goes on in steps of so many nanoseconds at most, and of two seconds where it knows whole ones alone.
+# The clock of file times advances in steps of at most this many nanoseconds, or of two seconds if it has only whole seconds.
 STEP, WHOLE = 20_000_000, 2 * 10**9
-# By what a tool is stopped.
+# The signals that stop a tool.
 STOPS = (signal.SIGINT, signal.SIGTERM, signal.SIGHUP)
 
 
@@ -25,7 +25,7 @@ class Axiom(NamedTuple):
 
 
 class Stored(NamedTuple):
-    """What a dump says of a file: its size, and the words that it was given."""
+    """What a dump says about a file: its size, and the words that it was given."""
 
     size: int
     words: frozenset[bytes]
@@ -40,20 +40,20 @@ class Times(NamedTuple):
 
 
 class Digest(Protocol):
-    """What takes the bytes of a file, as those of `hashlib` do."""
+    """An object that is updated with the bytes of a file, as those of `hashlib` are."""
 
     def update(self, data: bytes, /) -> None: ...
     def digest(self) -> bytes: ...
 
 
 def new_digest() -> Digest:
-    # OpenSSL takes a while to load, and few sessions need it.
+    # OpenSSL is slow to load, and few sessions need it.
     import hashlib
     return hashlib.sha256()
 
 
 class Dump:
-    """The declared words, the axioms, and each file by its name; and of each its digest, SHA-256, where that was asked for."""
+    """The declared words, the axioms, and each file by its name; and if digests were requested, the SHA-256 of each file."""
 
     def __init__(self) -> None:
         self.declared: set[bytes] = set()
@@ -63,10 +63,9 @@ class Dump:
 
 
 def read_dump(stream: IO[bytes], with_digests: bool = False) -> Dump:
-    """Reads a dump out of a binary stream: `mkdir`, `add`, `mv` and `axiom` lines.
+    """Reads a dump from a binary stream: `mkdir`, `add`, `mv` and `axiom` lines.
 
-    The bytes of files are passed over, so that a large image takes little memory. A `mv` is read as a dump has it: from the root, and to a
-    place of words.
+    The bytes of files are skipped, so that a large image takes little memory. A `mv` is read as a dump has it: from the root to a place of words.
     """
     dump = Dump()
     while line := stream.readline():
@@ -93,7 +92,7 @@ def read_dump(stream: IO[bytes], with_digests: bool = False) -> Dump:
 
 
 def pass_over(stream: IO[bytes], size: int, digest: Digest | None = None) -> None:
-    """A payload, which is given to a digest where there is one, and its line feed."""
+    """Reads a payload and its line feed, and updates the digest with the payload if there is one."""
     while size:
         read = stream.read(min(size, 65_536))
         if not read:
@@ -112,7 +111,7 @@ def dumped(image: str, with_digests: bool = False, unheard: Collection[signal.Si
 
 
 def times_of(image: str) -> Times | None:
-    """When it was changed, and which file it is; None where there is none, as the program then tells."""
+    """The image's times of change and its identity; None if it is missing, which the program then reports."""
     try:
         found = os.stat(image)
     except OSError:
@@ -121,7 +120,7 @@ def times_of(image: str) -> Times | None:
 
 
 def settled(image: str) -> Times | None:
-    """The image's times of change, when each later change will have others."""
+    """The image's times of change, once each later change is sure to get other times."""
     times = None
     for _ in range(100):
         now, times = time.time_ns(), times_of(image)
@@ -137,10 +136,10 @@ def opened(image: str, tries: int = 8, word: str = "run", with_digests: bool = F
 
 
 def opened_by(look: Callable[[], Dump], start: Callable[[], Program], image: str, tries: int = 8) -> tuple[Program, Dump]:
-    """What an image holds, and a program that runs over it, by these calls.
+    """What an image holds, and a program that runs over it, by these functions.
 
-    Nobody has the lock between the end of the dump and the session's first reply. So the image's time of change tells whether anybody
-    wrote it since the dump began; it is then dumped again. The first opening itself may write, where it ends what a stop left in the middle.
+    Nobody has the lock between the end of the dump and the session's first reply. So the image's time of change shows whether anybody wrote it since
+    the dump began; it is then dumped again. The first opening can write too, if it replays the journal.
     """
     for _ in range(tries):
         before, dump, program = settled(image), look(), start()
@@ -151,5 +150,5 @@ def opened_by(look: Callable[[], Dump], start: Callable[[], Program], image: str
 
 
 def started(image: str, word: str = "run") -> Program:
-    """A stop of all that was started together is for the tool, which then lets the program come to its end."""
+    """A signal for the whole process group is for the tool, which then lets the program finish."""
     return Program([PROGRAM, word, image], word == "rooms", STOPS)

@@ -37,30 +37,30 @@ from lisfs.parts import Changed, put, view
 from lisfs.refusals import without_blanks
 from lisfs.showing import harmless
 
-# How the program ends where it has certainly written nothing, beside being locked out: wrong words, no image, a fault of the input, no memory,
-# and a view that is too long.
+# The exit statuses after which the program has certainly written nothing, besides that of a locked image: wrong words, no image, an input error, no
+# memory, and a view that is too long.
 WRITES_NOTHING = (1, 2, 4, 6, 7)
 
 T = TypeVar("T")
 
 
 class Failed(Exception):
-    """What is amiss, in one line."""
+    """What is wrong, in one line."""
 
 
 class Stopped(Exception):
-    """This program is to end, and has written nothing."""
+    """The tool must end, and has written nothing."""
 
 
 class Stops:
-    """Signals by which this program is to end. They are noted, and told where somebody asks; or at once, the first of them, while `heed` runs.
-    So none comes between something that was done and the line that tells it."""
+    """Signals that end the tool. They are noted, and reported when the tool checks for them; or the first of them at once, while `heed` runs. So none
+    comes between a change and the line that reports it."""
 
     def __init__(self) -> None:
         self.number: int | None = None
         self.is_heeded = False
         for number in (signal.SIGTERM, signal.SIGHUP):
-            # What is ignored, as by `nohup`, stays so.
+            # A signal that is ignored, as by `nohup`, stays ignored.
             if signal.getsignal(number) == signal.SIG_DFL:
                 signal.signal(number, self._come)
 
@@ -75,7 +75,7 @@ class Stops:
             raise Stopped(f"ended by signal {self.number}")
 
     def heed(self, call: Callable[[], T]) -> T:
-        """What a call answers that may take long."""
+        """The result of a call that can take long."""
         self.is_heeded = True
         try:
             self.ask()
@@ -89,7 +89,7 @@ def tell(line: str) -> None:
 
 
 def wrong_word(*words: str) -> str:
-    """Which of its words the program takes for wrong, where their number is right."""
+    """Which of its words the program rejects, if their number is right."""
     for what, word in zip(("IMAGE", "NAME", "F"), map(os.fsencode, words)):
         try:
             word.decode()
@@ -99,7 +99,7 @@ def wrong_word(*words: str) -> str:
 
 
 def cause_of(error: Exception, image: str, name: str, formula: str) -> str:
-    """What an error of the program says, in one line."""
+    """What an error of the program means, in one line."""
     if isinstance(error, Refused):
         hint = without_blanks(os.fsencode(formula).split()) if error.number == BAD_FORMULA else None
         return f"{name}: {hint or error}"
@@ -117,7 +117,7 @@ def cause_of(error: Exception, image: str, name: str, formula: str) -> str:
 
 
 def editor() -> list[str]:
-    """The command that is the editor."""
+    """The editor's command."""
     for text in (os.environ.get("VISUAL", ""), os.environ.get("EDITOR", "")):
         try:
             if command := shlex.split(text):
@@ -128,8 +128,8 @@ def editor() -> list[str]:
 
 
 def draft_of(name: str, shown: bytes) -> str:
-    """A file with this view, in a folder of its own: for what an editor puts beside it, and so that no name says anything to an editor or to
-    another user. Its end is that of the name, by which editors know what they show."""
+    """A file with this view, in its own folder: so that an editor can put files beside it, and so that no name means anything to an editor or to
+    another user. It ends with the suffix of the name, by which editors choose how to show it."""
     import tempfile
     folder = None
     try:
@@ -153,7 +153,7 @@ def started(command: list[str], path: str) -> subprocess.Popen[bytes]:
 
 
 def edited(stops: Stops, editing: subprocess.Popen[bytes], path: str) -> bytes:
-    """What the editor leaves."""
+    """What the editor leaves in its file."""
     if status := stops.heed(editing.wait):
         raise Failed(f"the editor ended with {status}" if status > 0 else f"the editor was killed by signal {-status}")
     try:
@@ -163,7 +163,8 @@ def edited(stops: Stops, editing: subprocess.Popen[bytes], path: str) -> bytes:
 
 
 def content_of(path: str) -> bytes:
-    """The bytes of a plain file, and of more than an edited view may have one too many. A pipe might give none for ever, and a link any file's."""
+    """The bytes of a plain file; of one larger than any edited view, one byte more than the limit. A pipe could deliver bytes without end, and a link
+    could lead to any file."""
     if not stat.S_ISREG(os.lstat(path).st_mode):
         raise Failed("what the editor left: no plain file")
     with open(path, "rb", opener=lambda at, flags: os.open(at, flags | os.O_NONBLOCK | os.O_NOFOLLOW)) as file:
@@ -171,14 +172,14 @@ def content_of(path: str) -> bytes:
 
 
 def what_is_left(path: str) -> str:
-    """What stands where the editor's file was."""
+    """What is now at the path of the editor's file."""
     if os.path.isfile(path) and not os.path.islink(path):
         return f"the edited text is in {path}"
     return f"what the editor left is at {path}" if os.path.lexists(path) else "the edited text is gone"
 
 
 def written(stops: Stops, image: str, name: str, formula: str, shown: bytes, text: bytes) -> None:
-    """Writes the edited text, where the view is still the one that was shown."""
+    """Writes the edited text, if the view is still the one that was shown."""
     try:
         if stops.heed(lambda: view(image, name, formula)) != shown:
             raise Failed(f"{name}: its view has changed in the meantime")
@@ -192,7 +193,7 @@ def written(stops: Stops, image: str, name: str, formula: str, shown: bytes, tex
 
 
 def was_maybe_written(error: Exception) -> bool:
-    """Whether it isn't known of an error if the file was written."""
+    """Whether the file may have been written despite an error."""
     if isinstance(error, Ended):
         return not isinstance(error, Locked) and error.status not in WRITES_NOTHING
     return isinstance(error, NotAReply)
@@ -201,8 +202,8 @@ def was_maybe_written(error: Exception) -> bool:
 def edit(stops: Stops, image: str, name: str, formula: str) -> None:
     command, shown = editor(), stops.heed(lambda: view(image, name, formula))
     for number in (signal.SIGINT, signal.SIGQUIT):
-        # From now on what is typed to stop something is for the editor alone. A program that is started doesn't take over a handler, as it
-        # would an order to ignore a signal.
+        # From now on a signal from the terminal is for the editor alone. A started program does not inherit a handler, as it would inherit an ignored
+        # signal.
         signal.signal(number, lambda *_: None)
     path, editing, has_begun = draft_of(name, shown), None, False
     try:

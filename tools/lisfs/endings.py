@@ -1,4 +1,4 @@
-"""How tools end: what one line says of an error, and nothing is said if nobody reads what a tool shows."""
+"""How tools end: with one line for an error, and silently if nobody reads what a tool shows."""
 import contextlib
 import functools
 import os
@@ -12,7 +12,7 @@ from lisfs.showing import harmless, write_line
 
 
 class NotJoined(Ended):
-    """There is a server, and this is no client of it, for a cause that one line says."""
+    """There is a server, and this is no client of it, for a cause that one line states."""
 
     def __init__(self, cause: str) -> None:
         super().__init__(1, cause + "\n")
@@ -23,7 +23,7 @@ class NotJoined(Ended):
 
 
 def cause_of(error: BaseException, image: str) -> str:
-    """What one line says of an error that has ended it."""
+    """The line that says which error has ended a tool."""
     if isinstance(error, Locked):
         return f"{image}: in use by another lisfs"
     if isinstance(error, NotJoined):
@@ -36,15 +36,15 @@ def cause_of(error: BaseException, image: str) -> str:
 
 
 def quiet(main: Callable[[], int]) -> Callable[[], int]:
-    """A tool, or one that ends as others do where nobody reads what it shows any more (`tool | head -1`): by SIGPIPE, without a word. A
-    `BrokenPipeError` that `main` raises is of standard output or standard error: other pipes have errors of their own."""
+    """Runs a tool so that it ends as others do when nobody reads its output any more (`tool | head -1`): by SIGPIPE, silently. A `BrokenPipeError`
+    that `main` raises is about standard output or standard error: other pipes have their own errors."""
     @functools.wraps(main)
     def run() -> int:
         try:
             try:
                 return main()
             finally:
-                # Not at the very end, where Python would complain.
+                # Not at interpreter exit, when Python would complain.
                 if sys.stdout:
                     sys.stdout.flush()
         except BrokenPipeError:
@@ -61,21 +61,21 @@ def end_by_pipe() -> NoReturn:
 
 
 def say(line: str, kept: str = "") -> None:
-    """A line on standard error of a tool that goes on, also if nobody reads it."""
+    """Prints a line on the standard error of a tool that goes on, even if nobody reads it."""
     with contextlib.suppress(BrokenPipeError):
         write_line(sys.stderr, line, kept)
         sys.stderr.flush()
 
 
 def say_fault() -> None:
-    """A fault of a tool that goes on, in an `except` block: what it is, and where it was raised."""
-    # It takes a while to load, and faults are rare.
+    """Reports an internal error of a tool that goes on, in an `except` block: what it is, and where it was raised."""
+    # It is slow to load, and internal errors are rare.
     import traceback
     say(traceback.format_exc().rstrip("\n"), "\n")
 
 
 def folder_fault(folder: str) -> str | None:
-    """What is wrong with a folder that a tool is to read, or None."""
+    """What is wrong with a folder that a tool must read, or None."""
     shown = harmless(folder)
     try:
         with os.scandir(folder):

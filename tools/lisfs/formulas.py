@@ -1,6 +1,6 @@
-"""Formulas: what each holds of. This is the only reader of the grammar in the package.
+"""Formulas: which files each matches. This is the only parser of the grammar in the package.
 
-The grammar is that of docs/MODEL.md. A formula is read here only to find files by it. The program says which words a listing shows, and what a
+The grammar is that of docs/MODEL.md. A formula is parsed here only to find files by it. The program decides which words a listing shows, and what a
 change does.
 """
 from __future__ import annotations
@@ -13,12 +13,12 @@ from typing import NamedTuple, Protocol
 from lisfs.constants import MAX_FORMULA, MAX_NODES, MAX_WORD
 from lisfs.words import TEST, WORD, is_test
 
-# No name of a path has more bytes, so the depth of a formula is bounded.
+# The most bytes of a name in a path, so the depth of a formula is bounded.
 PART_LIMIT = 255
-# What is between the words of a formula.
+# The signs between the words of a formula.
 SIGNS = re.compile(rb"[/|!()]")
 PIECES = re.compile(rb"([/|!()])")
-# The signs after which, and those before which, `joined` adds none.
+# The signs after which, and before which, `joined` adds no sign.
 SIGN_BEFORE, SIGN_BEHIND = b"/|!(", b"/|)"
 
 
@@ -28,15 +28,15 @@ def words_in(formula: bytes) -> list[bytes]:
 
 
 class NotAFormula(ValueError):
-    """The text is no formula."""
+    """The text is not a formula."""
 
 
 class TooLarge(ValueError):
-    """The place would have more nodes or bytes than a place has."""
+    """The place would have more nodes or bytes than allowed."""
 
 
 class Described(Protocol):
-    """A file, as a formula looks at it."""
+    """A file as a formula sees it."""
 
     @property
     def words(self) -> Set[bytes]: ...
@@ -62,7 +62,7 @@ def replaced(text: bytes, word: bytes, other: bytes) -> bytes:
 
 
 def joined(words: Sequence[bytes]) -> bytes | None:
-    """The formula that was meant by several words with blanks between them: `/` joins those that no other sign joins. None if that is no formula."""
+    """The formula that was meant by several words separated by blanks: `/` joins those that no other sign joins. None if that is not a formula."""
     if len(words) < 2:
         return None
     text = b""
@@ -77,7 +77,8 @@ def joined(words: Sequence[bytes]) -> bytes | None:
 
 
 class Formula(Protocol):
-    """It says whether it holds of a file, of which files of an index it holds, as a row of bits, which words it has, and how it is written."""
+    """A formula can say whether it matches a file, which files of an index it matches, as a row of bits, which words it has, and how it is
+    written."""
 
     nodes: int
     words: tuple[bytes, ...]
@@ -173,7 +174,7 @@ def enclosed(part: Formula, kind: type[Pair]) -> bytes:
 
 
 class Reader:
-    """Reads a text from its beginning. `/` and `|` group to the left."""
+    """Parses a text from its beginning. `/` and `|` group to the left."""
 
     def __init__(self, text: bytes) -> None:
         self.text, self.at = text, 0
@@ -219,17 +220,17 @@ class Reader:
 
 
 def formula(text: bytes) -> Formula:
-    """What a text says. It is no deeper than a place has nodes. Raises `NotAFormula`."""
+    """The parsed formula of a text. It is no deeper than the limit of nodes of a place. Raises `NotAFormula`."""
     return Reader(text).whole()
 
 
-# A formula instead of one with words that no file has, and these words. Written so that its fields have types, and not texts, at the start.
+# A formula instead of one with words that no file has, and these words. Written as a call so that the types of its fields are no texts at the start.
 Instead = NamedTuple("Instead", [("formula", bytes), ("unused", tuple[bytes, ...])])
 
 
 def without(text: bytes, unused: Sequence[bytes]) -> Instead | None:
-    """The formula of a text, without each side of `|` that holds of no file because no file has the words `unused`. It holds of the same files.
-    None if there is no such formula: nothing is left, or `!` turns such a side into all files, or the text is no formula."""
+    """The formula of a text, without each side of `|` that matches no file because no file has the words `unused`. It matches the same files. None if
+    there is no such formula: nothing is left, or `!` turns such a side into all files, or the text is not a formula."""
     root = text[:1] if text.startswith(b"/") else b""
     try:
         left = held(formula(text[len(root):]), unused)
@@ -239,7 +240,7 @@ def without(text: bytes, unused: Sequence[bytes]) -> Instead | None:
 
 
 def held(whole: Formula, unused: Sequence[bytes]) -> Formula | None:
-    """A formula without its parts that hold of no file, or None if it holds of no file itself. Raises `NotAFormula` if no formula says this."""
+    """A formula without its parts that match no file, or None if it matches no file itself. Raises `NotAFormula` if no formula says this."""
     if isinstance(whole, Word):
         return None if whole.word in unused else whole
     if isinstance(whole, Not):
@@ -256,7 +257,7 @@ def held(whole: Formula, unused: Sequence[bytes]) -> Formula | None:
 
 @functools.lru_cache(4_096)
 def part(name: bytes) -> Formula:
-    """What a name of a path says. A slash is in none. Raises `NotAFormula`."""
+    """The formula of a name in a path, which has no slash. Raises `NotAFormula`."""
     if len(name) > PART_LIMIT:
         raise TooLarge(name)
     if b"/" in name:
@@ -265,8 +266,8 @@ def part(name: bytes) -> Formula:
 
 
 class Place:
-    """The steps of a path, the root without any. `words` are those of the place if it has only words, and else None; `named` are those that
-    its formulas have."""
+    """The steps of a path; the root has none. `words` are those of the place if it has only words, and else None; `named` are those that its formulas
+    have."""
 
     def __init__(self, names: Iterable[bytes] = ()) -> None:
         self.names = tuple(names)

@@ -1,4 +1,4 @@
-"""What a served image holds, in step with the commands that ran, and which client changed what. From this `tools/serve` says to its clients what
+"""What a served image holds, updated with each command that ran, and which client changed what. From this `tools/serve` reports to its clients what
 others have changed, so that what a client knows of an image stays true; and it refuses a change of a file that another client has changed.
 
 A client asks by lines of the server's own. They begin with a colon, as no command does, and the program gets none of them:
@@ -7,8 +7,8 @@ A client asks by lines of the server's own. They begin with a colon, as no comma
     :since N    what other clients have changed after the change of number N, and what this one has after that
     :guard N    from now on `write`, `mv`, `rename` and `rm` of a file that another client has changed after N is refused
 
-The replies have the form of replies. The first line says the number of the last change, and then the lines follow that are needed to know what is
-there now, the names that files got first. What is said twice is as it was said last, and any of it may be known already.
+The replies have the form of replies. The first line says the number of the last change, and then the lines follow that are needed to know the current
+state, with new names of files first. If two lines contradict, the last one holds, and the client may know any of them already.
 
     n COUNT            the number of the last change
     i DEVICE INODE     which file the image is: what follows is all that the image holds
@@ -21,7 +21,7 @@ there now, the names that files got first. What is said twice is as it was said 
     a LEFT RIGHT       there is this axiom
     x LEFT RIGHT       there is not
 
-A refusal by `:guard` is the line `no 00 changed by another client`, and nothing was changed.
+A refusal by `:guard` is the line `no 00 changed by another client`, and nothing is changed.
 """
 import collections
 import os
@@ -36,7 +36,7 @@ from lisfs.refusals import CHANGED
 from lisfs.words import is_built_in, is_head
 
 ROOT = b"/"
-# So many changes are kept. A client that knows only what was before them is told all.
+# How many changes are kept. A client that knows only older ones is sent the whole state.
 KEPT = 16_384
 REFUSED = b"no %02d changed by another client\n" % CHANGED
 OK = b"ok\n"
@@ -44,13 +44,13 @@ BAD = f"no {BAD_LINE:02} {REFUSAL_WORDS[BAD_LINE]}\n".encode()
 # The commands whose meaning depends on the place, and those that need a file as it was.
 PLACED = frozenset((b"create", b"add", b"mv", b"mkdir"))
 GUARDED = frozenset((b"write", b"mv", b"rename", b"rm"))
-# The letters of changes, and those that are said as another one is. `b` are the bytes of a file with another name.
+# The letters of changes, and the letters that are reported as another one. `b` are the bytes of a renamed file.
 LETTERS = (b"r", b"f", b"c", b"d", b"a")
 STATES = {b"g": b"f", b"u": b"d", b"x": b"a", b"b": b"c"}
 
 
 class Change(NamedTuple):
-    """A change: its number, the client that made it, the letter of its line and what it is of."""
+    """A change: its number, the client that made it, the letter of its line and the words of the line."""
 
     number: int
     client: int
@@ -67,7 +67,7 @@ class Latest(NamedTuple):
 
 
 def tags(place: bytes) -> frozenset[bytes]:
-    """The words that a place of words gives to a file: those that are no head, and not built in."""
+    """The words that a place of words gives to a file: those that are neither heads nor built in."""
     return frozenset(word for word in words_in(place) if not is_head(word) and not is_built_in(word))
 
 
@@ -93,9 +93,9 @@ class History:
         found = os.stat(image)
         self._identity = b"%d %d" % (found.st_dev, found.st_ino)
         self._changes: collections.deque[Change] = collections.deque()
-        # Of changes up to the number `_lost` nothing is kept.
+        # Changes up to the number `_lost` are no longer kept.
         self._kept, self._lost, self._latest, self._guards = kept, 0, dict[bytes, Latest](), dict[int, int]()
-        # What each command changes, of its place and its words.
+        # What each command changes, from its place and its words.
         self._steps: dict[bytes, Callable[[bytes, Sequence[bytes]], Iterator[tuple[bytes, ...]]]] = {
             b"mkdir": self._declare, b"rmdir": self._take_back, b"axiom": self._add_axiom, b"unaxiom": self._remove_axiom,
             b"create": self._create, b"add": self._add, b"write": self._write, b"mv": self._move, b"rename": self._rename, b"rm": self._remove}
@@ -103,7 +103,7 @@ class History:
     # What has changed.
 
     def note(self, client: int, place: bytes, words: Sequence[bytes]) -> None:
-        """That a command, of which these are the words, was run at a place, and its reply was `ok` alone."""
+        """Notes that a command with these words ran at a place, and that its reply was `ok` alone."""
         if step := self._steps.get(words[0]):
             self.count += 1
             for letter, *of in step(place, words[1:]):
@@ -118,7 +118,7 @@ class History:
         self._latest[name] = Latest(client, self.count, last.others if last.client == client else last.number)
 
     def _forget(self, change: Change) -> None:
-        """Keeps nothing of a file that is gone, once the change itself is not kept."""
+        """Forgets who changed a removed file last, once the change itself is not kept."""
         self._lost = change.number
         if change.letter == b"g" and change.of[0] not in self.files and self._latest[change.of[0]].number <= change.number:
             del self._latest[change.of[0]]
@@ -166,17 +166,17 @@ class History:
         yield b"r", *given
         yield b"g", given[0]
         yield b"f", given[1]
-        # What was written before is known by the old name.
+        # Earlier writes are known under the old name.
         yield b"b", given[1]
 
     def _remove(self, _: bytes, given: Sequence[bytes]) -> Iterator[tuple[bytes, ...]]:
         del self.files[given[0]]
         yield b"g", given[0]
 
-    # What is said of it.
+    # What clients are sent.
 
     def answer(self, client: int, words: Sequence[bytes]) -> bytes | None:
-        """The reply of the server's own to a line of a client, or None where the line is for the program."""
+        """The server's own reply to a line of a client, or None if the line is for the program."""
         if not words[0].startswith(b":"):
             is_refused = client in self._guards and self._is_changed(words, client, self._guards[client])
             return REFUSED if is_refused else None
@@ -191,7 +191,7 @@ class History:
         return OK
 
     def leave(self, client: int) -> None:
-        """That a client is gone."""
+        """Notes that a client is gone."""
         self._guards.pop(client, None)
 
     def _is_changed(self, words: Sequence[bytes], client: int, number: int) -> bool:
@@ -201,9 +201,9 @@ class History:
         return (last.others if last.client == client else last.number) > number
 
     def _since(self, client: int, number: int) -> bytes:
-        """What others than a client have changed after a change."""
+        """What clients other than this one have changed after a change."""
         found = self._found(client, number)
-        # Each once, in the order in which it came first.
+        # Each once, in the order of the first occurrence.
         of: dict[bytes, dict[tuple[bytes, ...], None]] = {letter: {} for letter in LETTERS}
         for change in found:
             of[STATES.get(change.letter, change.letter)][change.of] = None
@@ -214,8 +214,8 @@ class History:
             *((b"a " if Axiom(*pair) in self.axioms else b"x ") + b" ".join(pair) for pair in of[b"a"])])
 
     def _found(self, client: int, number: int) -> list[Change]:
-        """What others have changed after a change, and what the client itself has from the first of these on: that may have been done to what
-        it does not know yet, as if it renames a file that has just got its name."""
+        """What others have changed after a change, and what the client itself has changed since the first of these: it may have changed something
+        that it does not know yet, as when it renames a file that has just got its name."""
         found: list[Change] = []
         count = 0
         for change in reversed(self._changes):
@@ -233,7 +233,7 @@ class History:
                             *(b"a " + b" ".join(axiom) for axiom in self.axioms)])
 
     def _file(self, name: bytes) -> bytes:
-        """What a name stands for."""
+        """The current line of a name: a file, or that there is none."""
         if name not in self.files:
             return b"g " + name
         size, words = self.files[name]

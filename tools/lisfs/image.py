@@ -1,6 +1,6 @@
-"""An open image: the session that runs over it, and what is known of it beside, in step with the commands that were run.
+"""An open image: the session that runs over it, and what is known of it, updated with each command that ran.
 
-The image is locked by the session, so nobody else changes it; or it is served, and then `catch_up` takes in what others have changed. Between two
+The image is locked by the session, so nobody else changes it; or it is served, and then `catch_up` applies what others have changed. Between two
 calls the session's place is the root, where all files are.
 """
 import contextlib
@@ -35,7 +35,7 @@ class Limits(NamedTuple):
 
 
 def limits_of(path: str) -> Limits:
-    """The limits that the first block of an image says, which the program has looked at."""
+    """The limits in the first block of an image, which the program has checked."""
     with open(path, "rb") as file:
         head = file.read(25)
     files, words, blocks = struct.unpack_from("<3I", head, 12)
@@ -43,14 +43,14 @@ def limits_of(path: str) -> Limits:
 
 
 class Following(Generic[F]):
-    """What is known of an image over which a session runs: `index` has the files, each with the words that were asked for last."""
+    """What is known of an image over which a session runs: `index` has the files, each with the words that were last asked for."""
 
     program: Program
     index: Index[F]
     declared: set[bytes]
 
     def catch_up(self) -> "News | None":
-        """Takes in what other clients of a served image have changed since the last time, or returns None if that is nothing."""
+        """Applies what other clients of a served image have changed since the last call, and returns it, or None if there is nothing."""
         if news := self.program.news():
             self._take_names(news)
             self._take_words(news)
@@ -67,7 +67,8 @@ class Following(Generic[F]):
             self._is_removed(self.index.files[name])
 
     def _take_words(self, news: "News") -> None:
-        """Takes in the words that files were given, the declared words and the axioms. Whatever these may touch is asked for again."""
+        """Applies changes of the words that files were given, the declared words and the axioms. All words that these may affect are asked for
+        again."""
         stale = {self._is_there(name, size, words) for name, (size, words) in news.files.items()}
         if news.whole or any(map(is_test, news.declared | news.undeclared)):
             stale.update(self.index.files.values())
@@ -78,7 +79,7 @@ class Following(Generic[F]):
         self._is_stale(stale)
 
     def _is_there(self, name: bytes, size: int, words: frozenset[bytes]) -> F:
-        """A file that another client has made, or changed."""
+        """Applies that another client has made, or changed, a file."""
         file = self.index.files.get(name)
         if file is None:
             return self.index.add(name, size, words)
@@ -86,14 +87,14 @@ class Following(Generic[F]):
         return file
 
     def _is_removed(self, file: F) -> None:
-        """That another client has removed a file."""
+        """Applies that another client has removed a file."""
         self.index.drop(file)
 
     def _take_axioms(self, news: "News") -> None:
-        """Takes in the axioms that others have added and removed."""
+        """Applies the axioms that others have added and removed."""
 
     def _is_stale(self, files: set[F]) -> None:
-        """That the words of files may be others than those that are known."""
+        """The words of these files may differ from those that are known."""
         raise NotImplementedError
 
 
@@ -106,17 +107,17 @@ class Image(Following[F]):
 
     def __init__(self, program: Program, dump: Dump, limits: Limits, kind: Kind[File] = File) -> None:
         self.program, self.limits, self.declared = program, limits, set(dump.declared)
-        # Without a kind F is `File`.
+        # Without a `kind`, F is `File`.
         self.index = Index(cast(Kind[F], kind))
         for name, (size, words) in dump.files.items():
             self.index.add(name, size, words)
 
     def told(self, *commands: Words) -> list[list[BodyLine]]:
-        """The same of commands whose replies have lines: these lines."""
+        """As `asked`, for commands whose replies have lines: these lines."""
         return [as_lines(reply).body for reply in self.asked(*commands)]
 
     def asked(self, *commands: Words) -> list[Reply]:
-        """The replies to commands that change no place, or go to one and back, sent ahead of each other. Raises the first refusal."""
+        """The replies to commands that don't change the place, or go to one and back, sent ahead of their replies. Raises the first refusal."""
         found = self._answers(commands)
         for answer in found:
             if isinstance(answer, Refused):
@@ -126,7 +127,7 @@ class Image(Following[F]):
     def _answers(self, commands: Sequence[Words]) -> list[Reply | Refused]:
         """The replies and the refusals, in order."""
         for command in commands:
-            # Nothing is sent if one of them can't be.
+            # If one of them can't be sent, none is.
             item(command, None, self.program.longest)
         for command in commands:
             self.program.send(*command)
@@ -140,21 +141,21 @@ class Image(Following[F]):
         return found
 
     def describe(self, files: Iterable[F]) -> set[bytes]:
-        """Asks for the words of files. The words that no file has any more."""
+        """Asks for the words of files. Returns the words that no file has any more."""
         files, lost = list(files), set()
         for file, answer in zip(files, self._answers([(b"props", file.name) for file in files])):
             if not isinstance(answer, Refused):
                 lost |= self.index.describe(file, frozenset(text for _, text in as_lines(answer).body))
             elif not (self.program.is_shared and answer.number == NO_FILE_HERE):
                 raise answer
-            # Else another client has just removed or renamed it, as the next news say.
+            # Otherwise another client has just removed or renamed it, which the next news say.
         return {word for word in lost if not self.index.having(word)}
 
     def _is_stale(self, files: set[F]) -> None:
         self.describe(files)
 
     def counts(self) -> dict[str, int]:
-        """The counts of `stat`, by their names."""
+        """The counts of `stat`, by name."""
         return counts_in(self.told((b"stat",))[0])
 
     @contextlib.contextmanager

@@ -1,4 +1,4 @@
-"""Which file has which word: of each word a row of bits, a Python integer, in which each file has a bit. So how many files of a place have
+"""Which words each file has: for each word a row of bits, a Python integer, in which each file has a bit. So the number of files of a place that have
 a word is one `&` and a count of bits, and thousands of words are counted in milliseconds.
 """
 from __future__ import annotations
@@ -7,7 +7,7 @@ import itertools
 from collections.abc import Callable, Iterable, KeysView
 from typing import Generic, TypeVar, cast, overload
 
-# The digits of a row as what `compress` takes.
+# The digits of a row as selectors for `compress`.
 DIGITS = bytes.maketrans(b"01", b"\0\1")
 
 
@@ -15,20 +15,20 @@ NO_WORDS: frozenset[bytes] = frozenset()
 
 
 class File:
-    """`words` are all that it has, and `given` those that it was given. `bit` is the one that stands for it in each row."""
+    """`words` are all words that it has, and `given` those that it was given. `bit` represents it in each row."""
 
     def __init__(self, name: bytes, size: int, given: Iterable[bytes], bit: int) -> None:
         self.name, self.size, self.given, self.bit, self.words = name, size, frozenset(given), bit, NO_WORDS
 
 
-# What the files of an index are: `File`, or a class made of it.
+# The class of the files of an index: `File`, or a subclass.
 F = TypeVar("F", bound=File)
-# What makes one, of its name, its size, the words that it was given and its bit.
+# Makes a file from its name, its size, the words that it was given and its bit.
 Kind = Callable[[bytes, int, Iterable[bytes], int], F]
 
 
 class Index(Generic[F]):
-    """Files of a kind."""
+    """The files of an image."""
 
     @overload
     def __init__(self: Index[File]) -> None: ...
@@ -37,18 +37,18 @@ class Index(Generic[F]):
     def __init__(self, kind: Kind[F]) -> None: ...
 
     def __init__(self, kind: Kind[File] = File) -> None:
-        # Without a kind F is `File`.
+        # Without a `kind`, F is `File`.
         self.kind = cast(Kind[F], kind)
-        # By their names. In each row there are the bits of these files alone.
+        # By name. Rows have only the bits of these files.
         self.files: dict[bytes, F] = {}
         self.everything = 0
         self._rows: dict[bytes, int] = {}
-        # The file of each bit, or None, and which of them are of files that are gone, for the next ones.
+        # The file of each bit, or None, and the bits of removed files, for the next files.
         self._of_bits: list[F | None] = []
         self._free: list[int] = []
 
     def add(self, name: bytes, size: int, given: Iterable[bytes]) -> F:
-        """A file of this name, where there was none, or where another client of the image has just removed it."""
+        """Adds a file of this name. If there is one already, another client of the image has just removed it."""
         self._make_way(name)
         if self._free:
             at = self._free.pop()
@@ -60,7 +60,7 @@ class Index(Generic[F]):
         return file
 
     def drop(self, file: F) -> set[bytes]:
-        """Removes a file. The words that no file has any more."""
+        """Removes a file. Returns the words that no file has any more."""
         lost = self.describe(file, NO_WORDS)
         self.everything &= ~file.bit
         at = file.bit.bit_length() - 1
@@ -80,7 +80,7 @@ class Index(Generic[F]):
             self.drop(self.files[name])
 
     def describe(self, file: F, words: frozenset[bytes]) -> set[bytes]:
-        """From now on the file has these words. The words that no file has any more. One that was removed has none."""
+        """Sets the words of a file. Returns the words that no file has any more. A file that was removed has no words."""
         if self.files.get(file.name) is not file:
             return set()
         lost = set()
@@ -100,7 +100,7 @@ class Index(Generic[F]):
         return self._rows.keys()
 
     def beginning(self, text: bytes) -> list[bytes]:
-        """The words of files that begin so, the most frequent first. Small and large letters are the same."""
+        """The words of files that begin with a text, the most frequent first. Case is ignored."""
         text = text.lower()
         found = [word for word in self._rows if word.lower().startswith(text)]
         return sorted(found, key=lambda word: (-self._rows[word].bit_count(), word))
@@ -110,7 +110,7 @@ class Index(Generic[F]):
         return self._rows.get(word, 0)
 
     def where(self, is_so: Callable[[F], bool]) -> int:
-        """The files of which something is so, as a row."""
+        """The files that a test accepts, as a row."""
         return int("".join("1" if file and is_so(file) else "0" for file in reversed(self._of_bits)) or "0", 2)
 
     def of(self, row: int) -> list[F]:

@@ -1,4 +1,4 @@
-"""The words of a listing by their groups, as a person is shown them."""
+"""The words of a listing by their groups, as tools show them."""
 from __future__ import annotations
 
 import collections
@@ -34,5 +34,5 @@ def groups_of(words: Iterable[Count], wanted: bytes = b"") -> list[tuple[bytes, 
 
 
 def within(group: bytes, word: bytes) -> bytes:
-    """A word as it stands in its group: a value without its head."""
+    """A word as it is shown in its group: a value without its head."""
     return word[len(group):] if group.endswith(b":") else word

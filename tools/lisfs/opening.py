@@ -19,14 +19,14 @@ from lisfs.showing import harmless, write_line
 if TYPE_CHECKING:
     from lisfs.served import Session
 
-# After so many seconds it is said.
+# After how many seconds the line is shown.
 LONG = 1.0
-# Takes a line of a terminal away again.
+# Removes a line from a terminal.
 CLEAR = "\r\033[K"
 
 
 class Line:
-    """The line that says it, which goes away once the image is open."""
+    """The line, which is removed once the image is open."""
 
     def __init__(self, tool: str, image: str) -> None:
         self._text, self._is_shown, self._is_over, self._lock = f"{tool}: opening {harmless(image)} ...", False, False, threading.Lock()
@@ -45,7 +45,7 @@ class Line:
 
 
 def put(text: str) -> None:
-    """Writes to the terminal. Nobody may be there any more."""
+    """Writes to the terminal, which may be gone."""
     with contextlib.suppress(OSError):
         sys.stderr.write(text.encode(sys.stderr.encoding, "backslashreplace").decode(sys.stderr.encoding))
         sys.stderr.flush()
@@ -85,7 +85,7 @@ def joined_quietly(image: str) -> Session | None:
 
 
 def joined(tool: str, image: str) -> Session | None:
-    """The same, which a line says."""
+    """The same, and a line says so."""
     if session := joined_quietly(image):
         say_served(tool, image)
     return session
@@ -100,7 +100,7 @@ def opened(tool: str, image: str, word: str = "run", with_digests: bool = False)
 
 @contextlib.contextmanager
 def looked(tool: str, image: str) -> Iterator[Dump]:
-    """What an image holds, with digests, to be looked at in the block."""
+    """What an image holds, with digests, for the block."""
     with waiting(tool, image):
         session = joined(tool, image)
         dump = session.dump if session else dumps.dumped(image, with_digests=True)
@@ -111,7 +111,7 @@ def looked(tool: str, image: str) -> Iterator[Dump]:
 
 
 def tried(tool: str, image: str) -> None:
-    """Opens an image and closes it again, so that what is wrong with it is known before anything takes long."""
+    """Opens an image and closes it again, so that an error is reported before anything takes long."""
     with waiting(tool, image):
         session = joined_quietly(image)
         (session.program if session else Program([PROGRAM, "run", image])).close()

@@ -4,12 +4,12 @@ from __future__ import annotations
 import os
 import stat
 
-# So many bytes are read at most.
+# The most bytes that are read.
 LARGEST = 1 << 28
 
 
 def folder_of(variable: str, usual: str) -> str:
-    """The folder of this program's own files, where a variable of the environment says, or else at the usual place."""
+    """The folder of this program's own files, named by an environment variable, or else at the usual path."""
     top = os.environ.get(variable, "")
     return os.path.join(top if os.path.isabs(top) else os.path.expanduser(usual), "lisfs")
 
@@ -29,7 +29,7 @@ def read_own(path: str) -> bytes:
 
 
 def write_whole(path: str, data: bytes, is_kept: bool = False) -> None:
-    """Writes a file whole or not at all, for its owner alone; and on the medium before this returns, where it is to be kept."""
+    """Writes a file whole or not at all, for its owner alone; if it must be kept, it is on the medium before this returns."""
     import tempfile
     os.makedirs(os.path.dirname(path), 0o700, exist_ok=True)
     handle, temporary = tempfile.mkstemp(dir=os.path.dirname(path), prefix=".new-")

@@ -1,7 +1,7 @@
 """Views of the lines of a file, and edited views that are put back, as the words `view` and `put` of the program do it; also of a served image.
 
-A served image is open already, so these words can't open it. The file's bytes then go through an image of their own, which has this one file:
-the program makes the view of it there, and puts the edited view back, and the server's image gets the bytes that come out.
+A served image is open already, so these words can't open it. The file's bytes then go through a separate image, which has this one file: the program
+makes the view there, and puts the edited view back, and the server's image gets the resulting bytes.
 """
 import os
 from typing import NamedTuple
@@ -12,7 +12,7 @@ from lisfs.constants import BLOCK_LEN, MAX_PAYLOAD
 from lisfs.opening import joined, waiting
 from lisfs.words import is_file_name
 
-# The limits of an image that takes any file, in which new bytes need room beside the old ones.
+# The limits of an image that can hold any file, with room for new bytes besides the old ones.
 LIMITS = ("64", "64", str(4 * MAX_PAYLOAD // BLOCK_LEN), "v2")
 
 
@@ -30,14 +30,14 @@ class Alone(NamedTuple):
         return client.view(self.image, self.name, formula)
 
     def put(self, formula: str, edited: bytes) -> bytes:
-        """The bytes that the file has then."""
+        """Writes the edited view, and returns the new bytes of the file."""
         client.put(self.image, self.name, formula, edited)
         with Program([PROGRAM, "run", self.image]) as program:
             return program.cat(os.fsencode(self.name)).body
 
 
 def alone(folder: str, name: str, content: bytes) -> Alone:
-    """An image in a folder, with these bytes as the one file in it."""
+    """A new image in a folder, with these bytes as its only file."""
     image = os.path.join(folder, "image")
     Program([PROGRAM, "make", image, *LIMITS]).close()
     with Program([PROGRAM, "run", image]) as program:
@@ -46,7 +46,7 @@ def alone(folder: str, name: str, content: bytes) -> Alone:
 
 
 def content_of(program: Program, name: str) -> bytes:
-    """The bytes of a file. What is no file name is wrong use, as it is to the words of the program."""
+    """The bytes of a file. A name that is no file name is wrong use, as for the words of the program."""
     if not is_file_name(os.fsencode(name)):
         raise Ended(1, "lisfs: usage\nlisfs view IMAGE NAME F\n")
     return program.cat(os.fsencode(name)).body
@@ -64,7 +64,7 @@ def view(image: str, name: str, formula: str) -> bytes:
 
 
 def put(image: str, name: str, formula: str, shown: bytes, edited: bytes) -> None:
-    """Writes a file by an edited view of it. Of a served image it is `Changed` if the view is not the one that was shown."""
+    """Writes a file by an edited view of it. For a served image it raises `Changed` if the view is not the one that was shown."""
     with waiting("edit", image):
         session = joined("edit", image)
         if session is None:

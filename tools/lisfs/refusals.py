@@ -1,7 +1,7 @@
-"""What refusals mean: each in one row, in the words of each tool. `constants` has their numbers, and the words that the program shows.
+"""What refusals mean: one row each, with the text of each tool. `constants` has their numbers, and the words that the program shows.
 
 - `means` is a clause, after "it is refused if": help has a list of them.
-- `sentence` is a whole sentence, for a page, and `error` the error of a file system. Those of `put` alone have none, since no session meets them.
+- `sentence` is a whole sentence, for a page, and `error` the error of a file system. Refusals of `put` alone have none, since no session meets them.
 - `cause` is a short cause, for a report of many files.
 """
 import errno
@@ -18,7 +18,7 @@ from lisfs.words import NAME_FORM, head_of, is_file_name, is_plain, is_test, is_
 
 
 class Refusal(NamedTuple):
-    """What a refusal means. None is what no tool has a use for."""
+    """What a refusal means. A field is None if no tool needs it."""
 
     means: str
     sentence: str | None = None
@@ -27,7 +27,7 @@ class Refusal(NamedTuple):
 
 
 class Numbered(Protocol):
-    """A refusal of the program, as `client.Refused` is: of this command, with the words behind its name."""
+    """A refusal of the program, as `client.Refused` is: of this command, with the words after its name."""
 
     number: int
     command: str
@@ -35,13 +35,13 @@ class Numbered(Protocol):
 
 
 class OfCommand(NamedTuple):
-    """What it means of one command. None is that of all."""
+    """What it means for one command. None means the same as for all."""
 
     means: str | None
     sentence: str | None = None
 
 
-# By this number a server refuses to change a file that another client has changed. The program has no such number.
+# The number with which a server refuses to change a file that another client has changed. The program has no such number.
 CHANGED = 0
 *HEADS, LAST_HEAD = (head.decode() for head in BUILT_IN_HEADS)
 NO_WORDS = "has `|`, `!` or a test in it, and so no words of its own"
@@ -103,7 +103,7 @@ REFUSALS = {
     NOT_IN_FORM: Refusal("what was edited is no view of a file"),
     OTHER_MARKS: Refusal("the marks of hidden lines are not those of the view"),
 }
-# Where more can be said of a command.
+# Refusals with a more exact meaning for some commands.
 OF_COMMANDS: dict[tuple[str, int], OfCommand] = {
     ("mkdir", NOT_A_PLACE): OfCommand(
         "the place is neither the root nor made of plain words alone", "A word is declared at the root, or at a place of plain words alone."),
@@ -139,22 +139,22 @@ def meaning(number: int, command: str | None = None) -> str:
 
 
 def sentence(number: int, command: str | None = None) -> str:
-    """The same as a sentence. One that is not known here is one of a later program."""
+    """The same as a sentence. A number that is not known here is that of a later program."""
     return (of_command(number, command).sentence or number in REFUSALS and REFUSALS[number].sentence
             or f"The program refuses it, by number {number}.")
 
 
-# So many words are named that may have been meant.
+# How many words that may have been meant are named.
 MEANT = 5
-# So many words after these commands are names of files, and so many more are no words of files.
+# How many words after these commands are names of files, and how many more are not words of files.
 NAMES = {"create": 1, "add": 1, "write": 1, "cat": 1, "mv": 1, "rename": 2, "rm": 1, "props": 1, "way": 1}
 OTHERS = {"add": 1, "write": 1}
 FORMULAS = ("cd", "mv")
 
 
 def about(refusal: Numbered, known: Container[bytes]) -> list[bytes]:
-    """The words of a command that a refusal as `no 01` or `no 06` is about; none of another refusal. `known` has the words that are declared, and
-    for `cd` all that are known. If these don't show which it is, it may be any."""
+    """The words of a command that a refusal as `no 01` or `no 06` is about; none for another refusal. `known` has the declared words, and for `cd`
+    all known words. If these don't show which word it is, all are returned."""
     names = NAMES.get(refusal.command, 0)
     behind = list(refusal.given[names + OTHERS.get(refusal.command, 0):])
     if refusal.number == BAD_LINE:
@@ -165,7 +165,7 @@ def about(refusal: Numbered, known: Container[bytes]) -> list[bytes]:
     if refusal.command in FORMULAS:
         behind = words_in(behind[0])
     elif refusal.command == "axiom":
-        # The right side is looked at first.
+        # The right side is checked first.
         behind = [word for word in behind[1:] if word not in known] or behind[:1]
     unknown = [word for word in behind if word not in known and (refusal.command == "cd" or not is_value_of(word, known))]
     return unknown or behind
@@ -184,7 +184,7 @@ def named(refusal: Numbered, known: Container[bytes] = frozenset()) -> str:
 
 
 def said(words: Sequence[bytes]) -> str:
-    """Words, one after the other."""
+    """Several words as a list in a text."""
     return ", ".join(word.decode(errors="backslashreplace") for word in words)
 
 
@@ -204,23 +204,23 @@ def sentence_about(number: int, command: str | None, words: Sequence[bytes]) -> 
 
 
 def left_out(instead: Instead) -> str:
-    """A clause for words that no file has, and without which a formula is read."""
+    """A clause for words that no file has, and that are left out of a formula."""
     return f"{said(instead.unused)}: no file has {'this word' if len(instead.unused) == 1 else 'these words'}, so the formula is `{said([instead.formula])}`"
 
 
 def without_blanks(words: Sequence[bytes], before: str = "", after: str = "") -> str | None:
-    """Says of several words that they should be one formula, and shows that formula in its line, between two texts; None if they make no formula."""
+    """Says that several words should be one formula, and shows that formula in its line, between two texts; None if they make no formula."""
     found = joined(words)
     return f"a formula has no blanks, and `/` joins its words: `{before}{said([found])}{after}`" if found else None
 
 
 def error_of(number: int) -> int:
-    """The error of a file system that a refusal is."""
+    """The error of a file system for a refusal."""
     return number in REFUSALS and REFUSALS[number].error or errno.EIO
 
 
 def cause_of(refusal: Numbered, known: Container[bytes] = frozenset()) -> str:
-    """The cause in some words, or else the refusal as it is shown, with the words that it is about."""
+    """The cause in a few words, or else the refusal as it is shown, with the words that it is about."""
     if refusal.number == CHANGED:
         return "another client has changed it meanwhile"
     row = REFUSALS.get(refusal.number)

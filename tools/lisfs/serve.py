@@ -54,7 +54,7 @@ from lisfs.showing import harmless
 
 READ, WRITE = selectors.EVENT_READ, selectors.EVENT_WRITE
 ROOT, PLACE = item([b"cd", b"/"]), item([b"pwd"])
-# What `run` shows where its input ends within a payload. The program can't be told of such an end, since its own input goes on.
+# What `run` shows if its input ends within a payload. The program can't see such an end, since its own input goes on.
 CUT = f"no {CUT_PAYLOAD:02} {REFUSAL_WORDS[CUT_PAYLOAD]}\n".encode()
 # How many bytes are read at once.
 PIECE = 65_536
@@ -63,12 +63,12 @@ PATH = 107
 
 
 def fail(cause: object) -> NoReturn:
-    """Ends the server with 1, and says why."""
+    """Ends the server with status 1, and says why."""
     sys.exit(harmless(f"serve: {cause}"))
 
 
 def patience(text: str) -> float:
-    """How long, in seconds, the beginning waits for another server that begins there, and the end for the program and for clients."""
+    """How many seconds a start waits for another server that starts at the same socket, and an end for the program and for clients."""
     with contextlib.suppress(ValueError):
         if 0 <= (seconds := float(text)) <= 1_000_000:
             return seconds
@@ -79,7 +79,8 @@ PATIENCE = patience(os.environ.get("LISFS_PATIENCE") or "5")
 
 
 class Signals:
-    """The signals that end the server, whatever it waits for: a byte can be read when one has come, and the program has so long to end."""
+    """The signals that end the server, whatever it waits for: when one has come, a byte can be read, and the program has `PATIENCE` seconds to
+    end."""
 
     def __init__(self) -> None:
         self.has_come = False
@@ -88,7 +89,7 @@ class Signals:
         os.set_blocking(sent, False)
         signal.set_wakeup_fd(sent, warn_on_full_buffer=False)
         for number in STOPS:
-            # What is ignored, as by `nohup`, stays so.
+            # A signal that is ignored, as by `nohup`, stays ignored.
             if signal.getsignal(number) != signal.SIG_IGN:
                 signal.signal(number, self._hear)
 
@@ -101,26 +102,26 @@ class Signals:
         self.has_come = True
 
     def end(self, kill_after: Callable[[float], None]) -> None:
-        """From now on they end this program too, by this call."""
+        """From now on they end the program too, by this function."""
         self._kill_after = kill_after
         if self.has_come:
             kill_after(PATIENCE)
 
     def wait(self, seconds: float) -> None:
-        """Waits so long for one, and ends the server where one has come."""
+        """Waits up to this many seconds for a signal, and exits if one has come."""
         if select.select([self], [], [], seconds)[0]:
             sys.exit(0)
 
 
 class Client:
-    """A connection, with what came and was not carried out, and what is to be sent. No other one ever has its number."""
+    """A connection, with the input that did not run yet, and what must be sent. No other client ever has its number."""
 
     def __init__(self, connection: socket.socket, number: int) -> None:
         self.connection, self.items, self.unsent, self.has_ended = connection, Items(ROOM_LINE), memoryview(b""), False
         self.number = number
 
     def send(self) -> bool:
-        """Sends what the client takes now. Whether it is still there."""
+        """Sends as much as the client takes now. Returns whether it is still there."""
         try:
             self.unsent = self.unsent[self.connection.send(self.unsent):]
         except BlockingIOError:
@@ -137,19 +138,19 @@ class Client:
 
 
 class Room:
-    """A room of the program. It is fresh where its place is still that of a new client, and awaits a reply to one command at most."""
+    """A room of the program. It is fresh once it is at the root for its client, and awaits the reply to at most one command."""
 
     def __init__(self, number: int) -> None:
         self.number, self.is_fresh, self.is_awaiting = number, True, False
         self.client: Client | None = None
-        # Its place, where that is known, and a command that waits until it is.
+        # Its place, if it is known, and a command that waits until it is.
         self.place: bytes | None = None
         self.held: Item | None = None
 
 
 class Awaited(NamedTuple):
-    """The room of a command that was sent and not replied to, and its client, or None where the reply goes to nobody; its words, and the place
-    at which it runs, if that matters."""
+    """The room of a command that was sent and not replied to; its client, or None if the reply goes to nobody; its words, and the place at which it
+    runs, if that matters."""
 
     room: Room
     client: Client | None
@@ -161,7 +162,7 @@ class HasFileno(Protocol):
     def fileno(self) -> int: ...
 
 
-# What is watched: its descriptor, or what has one.
+# A descriptor to watch, or an object with one.
 Watched: TypeAlias = int | HasFileno
 
 
@@ -177,7 +178,7 @@ class Server:
         self.watch(listener, READ, self.take_client)
 
     def watch(self, file: Watched, events: int, call: Callable[[], None] | None) -> None:
-        """From now on these events of a file lead to this call, or none do."""
+        """From now on these events of a file call this function, or none do."""
         if file not in self.selector.get_map():
             if events:
                 self.selector.register(file, events, call)
@@ -187,7 +188,7 @@ class Server:
             self.selector.unregister(file)
 
     def serve(self) -> None:
-        """Goes on until `end` was called and all that was under way is replied to. Raises `Ended` where the program ends before."""
+        """Runs until `end` was called and everything under way has its reply. Raises `Ended` if the program ends before."""
         while not self.is_ending or self.awaited:
             for key, _ in self.selector.select(0 if self.has_more else None):
                 key.data()
@@ -195,7 +196,7 @@ class Server:
                 self.take_replies()
 
     def end(self, signals: Signals) -> None:
-        """Takes no more commands, since a signal has come."""
+        """Reads no more commands, since a signal has come."""
         os.read(signals.fileno(), PIECE)
         self.is_ending = True
         self.watch(self.listener, 0, None)
@@ -205,13 +206,13 @@ class Server:
     def take_client(self) -> None:
         free = [room for room in self.rooms if not room.client]
         if not free and any(room.client and room.client.is_gone() for room in self.rooms):
-            # It leaves its room soon, when something is read from it or sent. Until then who comes waits.
+            # It leaves its room soon, when something is read from it or sent. Until then new clients wait.
             self.watch(self.listener, 0, None)
             return
         try:
             connection, _ = self.listener.accept()
         except OSError:
-            # It is gone again.
+            # It is already gone.
             return
         connection.setblocking(False)
         if free:
@@ -225,7 +226,7 @@ class Server:
             connection.close()
 
     def leave(self, room: Room, client: Client) -> None:
-        """Closes the connection of a room. The reply that it may await goes to nobody."""
+        """Closes the connection of a room. A reply that it awaits goes to nobody."""
         self.watch(client.connection, 0, None)
         client.connection.close()
         self.history.leave(client.number)
@@ -234,7 +235,7 @@ class Server:
             self.watch(self.listener, READ, self.take_client)
 
     def read(self, room: Room, client: Client) -> None:
-        """Takes in what a client sends."""
+        """Reads what a client sends."""
         try:
             data = client.connection.recv(PIECE)
         except BlockingIOError:
@@ -249,7 +250,7 @@ class Server:
         self.go_on(room)
 
     def take_replies(self) -> None:
-        """Hands on some replies that are there: no more than so many, so that everything else has its turn before the next ones."""
+        """Passes on replies that have come, at most `ROOMS` of them, so that everything else has its turn before the next ones."""
         for _ in range(ROOMS):
             reply = self.program.receive_bytes(wait=False)
             self.has_more = reply is not None
@@ -264,10 +265,10 @@ class Server:
             self.go_on(room)
 
     def note(self, awaited: Awaited, reply: bytes) -> None:
-        """Keeps in mind what a command has changed."""
+        """Records what a command has changed."""
         room, client, words, place = awaited
         if client is None:
-            # What the server asked itself: to go to the root, or which place it is.
+            # The server's own command: going to the root, or asking for the place.
             room.place = b"/" if reply == OK else reply.partition(b"\n")[0].removeprefix(b"w ")
         elif reply == OK and words[0] == b"cd":
             room.place = None
@@ -275,7 +276,7 @@ class Server:
             self.history.note(client.number, place, words)
 
     def go_on(self, room: Room) -> None:
-        """Does what can be done in a room: sends what is unsent, then the next command, and closes it behind the last one."""
+        """Does what can be done in a room: sends what is unsent, then starts the next command, and closes it after the last one."""
         client = room.client
         if client is None:
             return
@@ -288,7 +289,7 @@ class Server:
             self.watch(client.connection, wanted, functools.partial(self.on_client, room, client))
 
     def on_client(self, room: Room, client: Client) -> None:
-        # A call before may have closed it.
+        # An earlier call may have closed it.
         if room.client is client:
             if client.unsent:
                 self.go_on(room)
@@ -306,8 +307,8 @@ class Server:
             self.leave(room, client)
 
     def begin(self, room: Room, client: Client, taken: Item) -> None:
-        """Begins with a command: it is for the server itself, or for the program."""
-        # A line that is too long is refused, whatever it holds.
+        """Starts a command: it is for the server itself, or for the program."""
+        # A line that is too long is refused, whatever it contains.
         words = words_of(taken.line[:-1]) if len(taken.line) <= ROOM_LINE + 1 else []
         if words and (reply := self.history.answer(client.number, words)) is not None:
             client.unsent = memoryview(reply)
@@ -324,13 +325,13 @@ class Server:
         self.push()
 
     def push(self) -> None:
-        """Sends the program what it takes, and goes on when it takes more."""
+        """Sends the program as much as it reads, and goes on when it reads more."""
         self.watch(self.program.input_fileno(), WRITE if self.program.push() else 0, self.push)
 
     def close(self) -> None:
-        """Hands out what was replied to, to clients that take it soon, and closes all connections."""
+        """Sends the replies that have come to clients that read them soon, and closes all connections."""
         self.is_ending = True
-        # Of a program that has ended whole replies may be left.
+        # After the program has ended, complete replies may be left.
         with contextlib.suppress(Ended, NotAReply):
             self.take_replies()
         until = time.monotonic() + PATIENCE
@@ -349,9 +350,9 @@ class Server:
 
 @contextlib.contextmanager
 def lock_held(path: str, signals: Signals) -> Iterator[None]:
-    """Holds the lock of a socket's own lock file while the block runs, so that of two servers that begin at once one finds the other. No other
-    program has a reason to lock this file, as it has to lock a folder. Its name is gone when the lock is: who has waited for a file without
-    a name tries again."""
+    """Holds the lock of a socket's own lock file while the block runs, so that if two servers start at once, one finds the other. No other program
+    has a reason to lock this file, as it might lock a folder. Its name is removed with the lock: a server that has waited for a file without a name
+    tries again."""
     at, until = f"{path}.lock", time.monotonic() + PATIENCE
     while not (lock := tried_lock(at)):
         if time.monotonic() > until:
@@ -366,7 +367,7 @@ def lock_held(path: str, signals: Signals) -> Iterator[None]:
 
 
 def tried_lock(at: str) -> int | None:
-    """The lock file, which is there and locked, or None where another server has it. Ends where something else is there."""
+    """The lock file, which exists and is locked, or None if another server has the lock. Exits if the file is something else."""
     lock = os.open(at, os.O_RDWR | os.O_CREAT | os.O_NOFOLLOW | os.O_NONBLOCK | os.O_CLOEXEC, 0o600)
     found = os.fstat(lock)
     if not stat.S_ISREG(found.st_mode) or found.st_uid != os.geteuid() or found.st_size:
@@ -386,7 +387,7 @@ def has_name(lock: int, at: str) -> bool:
 
 
 def is_served(path: str) -> bool:
-    """Whether somebody listens at a socket."""
+    """Whether a process listens at a socket."""
     with socket.socket(socket.AF_UNIX) as probe:
         probe.setblocking(False)
         try:
@@ -394,13 +395,13 @@ def is_served(path: str) -> bool:
         except ConnectionRefusedError:
             return False
         except BlockingIOError:
-            # So many wait for an answer that no more may.
+            # The queue of waiting connections is full.
             return True
     return True
 
 
 def clear(path: str) -> None:
-    """Removes the socket of a server that is gone. Ends where something else is there."""
+    """Removes the socket of a server that is gone. Exits if the path is something else."""
     try:
         kind = os.lstat(path).st_mode
     except FileNotFoundError:
@@ -413,7 +414,8 @@ def clear(path: str) -> None:
 
 
 def bound(listener: socket.socket, path: str) -> None:
-    """Makes the socket, which nobody but its owner may ever use. It is made aside, so that where it is there it is listened at."""
+    """Makes the socket, which only its owner may ever use. It is made under another name, so that when it is at its path, the server already
+    listens."""
     aside = f"{path}.{os.getpid()}"
     if len(os.fsencode(aside)) > PATH:
         aside = path
@@ -434,7 +436,7 @@ def bound(listener: socket.socket, path: str) -> None:
 
 
 def give_name(aside: str, path: str) -> None:
-    """Lets the socket stand at its path too. What somebody made there meanwhile stays, but for the socket of a server that is gone."""
+    """Links the socket to its path too. A file that was made there meanwhile stays, except the socket of a server that is gone."""
     while True:
         try:
             os.link(aside, path)
@@ -461,8 +463,8 @@ def listening(path: str, signals: Signals) -> Iterator[socket.socket]:
 
 
 def opened(image: str, signals: Signals) -> tuple[Program, History]:
-    """The program that serves an image, once that is open, and what the image holds. It gets none of the signals, also where a terminal sends
-    them to all: it ends with its input."""
+    """The program that serves an image, once that is open, and what the image holds. It gets none of the signals, even if a terminal sends them to
+    all: it ends with its input."""
     def start() -> Program:
         program = started(image, "rooms")
         signals.end(program.kill_after)
@@ -481,7 +483,7 @@ def serve(image: str, path: str, signals: Signals) -> None:
             server.watch(signals, READ, functools.partial(server.end, signals))
             try:
                 server.serve()
-                # Ahead of the clients, who may be waited for as long as it.
+                # Before the clients, which the end may wait for as long.
                 program.close()
             except NotAReply:
                 program.kill()
@@ -491,7 +493,7 @@ def serve(image: str, path: str, signals: Signals) -> None:
 
 
 def cause_of(end: Ended, image: str, signals: Signals) -> str:
-    """Why the program has ended."""
+    """The message for the end of the program."""
     if signals.has_come and end.status == -signal.SIGKILL:
         return f"serve: {image}: the program had not ended {PATIENCE:g} seconds after a signal, and was killed; what was replied to is kept\n"
     return end.text or f"serve: {end}\n"

@@ -1,7 +1,7 @@
 """A client of a served image: a session at the socket that `tools/serve IMAGE` has beside the image.
 
-It is asked as a program is that has the image alone. Others change the image too: `news` says what they have changed since it was asked last, so
-that what is known of the image stays true (`history` has the lines), and behind `guard` no file is changed that another client has changed.
+It is used like a program that has the image alone. Others change the image too: `news` returns what they have changed since the last call, so that
+what is known of the image stays true (`history` has the lines), and after `guard` a change of a file that another client has changed is refused.
 """
 import contextlib
 import os
@@ -16,7 +16,7 @@ from lisfs.dumps import Axiom, Dump, Stored
 from lisfs.endings import NotJoined
 
 PIECE = 65_536
-# What the system says of who listens: the process, the user and the group.
+# The system's credentials of the listener: the process, the user and the group.
 PEER = struct.Struct("3i")
 
 
@@ -28,7 +28,7 @@ class Identity(NamedTuple):
 
 
 class News:
-    """What others have changed. It is `whole` if it is all that the image holds, so that nothing else is there."""
+    """What others have changed. It is `whole` if it is all that the image holds, so that nothing else exists."""
 
     def __init__(self) -> None:
         self.number = 0
@@ -44,7 +44,7 @@ class News:
 
 
 def news_of(body: list[BodyLine]) -> News:
-    """What the lines of a reply say. Raises `NotAReply`."""
+    """The parsed lines of a reply. Raises `NotAReply`."""
     news = News()
     takes: dict[bytes, Callable[[list[bytes]], object]] = {
         b"r": lambda words: news.renamed.append((words[0], words[1])), b"c": lambda words: news.written.add(words[0]),
@@ -85,19 +85,19 @@ class Joined(Program):
         return news
 
     def news(self) -> News | None:
-        """What others have changed since this was asked last, or None if that is nothing."""
+        """What others have changed since the last call, or None if nothing."""
         body = self.lines(b":since", b"%d" % self._known).body
         news = news_of(body)
         self._known = news.number
         return news if len(body) > 1 else None
 
     def changes(self) -> int:
-        """How many changes there were, each of which the image has by now: the program runs commands one after the other."""
+        """How many changes there were, all of which the image has by now: the program runs commands in sequence."""
         self.pwd()
         return news_of(self.lines(b":since", b"%d" % self._known).body).number
 
     def guard(self) -> None:
-        """From now on no file is changed that another client has changed after what is known: that is refused as `CHANGED`."""
+        """From now on a change of a file that another client has changed since the last known change is refused as `CHANGED`."""
         self.lines(b":guard", b"%d" % self._known)
 
     def close(self) -> None:
@@ -147,12 +147,12 @@ class Joined(Program):
         return count >= len(self._awaited)
 
     def begins_full(self) -> bool:
-        """Whether the server has said that it has no room for one more."""
+        """Whether the server has said that it has no room for another client."""
         return self._replies.shown.startswith(FULL)
 
 
 class Digests(dict[bytes, bytes]):
-    """The digests of files, each made when it is wanted. That of a file that is gone is empty."""
+    """The digests of files, each computed when it is needed. That of a file that is gone is empty."""
 
     def __init__(self, program: Program) -> None:
         super().__init__()
@@ -168,8 +168,8 @@ class Digests(dict[bytes, bytes]):
 
 
 def connected(image: str) -> socket.socket | None:
-    """A connection to the server of an image, or None if there is none. What another user listens to, who may not write the image, is not
-    believed."""
+    """A connection to the server of an image, or None if there is none. Raises `NotJoined` if the listener is of another user who
+    does not own the image either, and who is not root."""
     path = socket_of(image)
     connection = socket.socket(socket.AF_UNIX)
     try:

@@ -1,17 +1,17 @@
-"""Shows names, words and contents so that they do nothing to a terminal. Whatever did not come from a tool itself is shown by this."""
+"""Shows names, words and contents so that they do nothing to a terminal. All text that does not come from a tool itself is shown this way."""
 import re
 from typing import TextIO
 
 # The characters that every terminal shows as they are.
 PLAIN = re.compile(r"[^ -~]")
-# Where a byte that is no UTF-8 stands in a text, as Python reads a path or a name.
+# The code points of bytes that are not UTF-8, as Python reads a path or a name.
 BYTES = 0xdc00
 
 
 def harmless(data: bytes | str, kept: str = "") -> str:
-    """Bytes, or a text, as characters that do nothing to a terminal. A control is shown as `^X` or `\\xNN`, a byte that is no UTF-8 as `\\xNN`,
-    and any other character without a look of its own, as one that turns the direction of writing, as `\\xNN`, `\\uNNNN` or `\\UNNNNNNNN`. The
-    characters `kept` stay as they are: a line feed and a tab, where a content is shown, and none of them where a line is to stay one line."""
+    """Bytes, or a text, as characters that do nothing to a terminal. A control is shown as `^X` or `\\xNN`, a byte that is no UTF-8 as `\\xNN`, and
+    any other invisible character, for example one that changes the direction of writing, as `\\xNN`, `\\uNNNN` or `\\UNNNNNNNN`. The characters
+    `kept` stay as they are: a line feed and a tab if a content is shown, and none if a line must stay one line."""
     def shown(found: re.Match[str]) -> str:
         character = found[0]
         if character in kept or character.isprintable():

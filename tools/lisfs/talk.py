@@ -34,7 +34,7 @@ class Talk:
         self.unsent, self.has_ended, self.asked, self.answered = memoryview(b""), False, 0, 0
 
     def run(self) -> bool:
-        """Goes on until the server closes the connection. Whether all was replied to."""
+        """Runs until the server closes the connection. Returns whether all was replied to."""
         while True:
             reading = [self.connection] + ([] if self.has_ended or self.unsent else [INPUT])
             readable, writable, _ = select.select(reading, [self.connection] if self.unsent else [], [])
@@ -46,7 +46,7 @@ class Talk:
                 self.read()
 
     def read(self) -> None:
-        """Takes in a piece of the input. At its end the last line is ended."""
+        """Reads a piece of the input. At the end of the input the last line is ended."""
         data = os.read(INPUT, PIECE)
         if data:
             self.take(data)
@@ -54,7 +54,7 @@ class Talk:
             self.has_ended = True
             while self.items.lacks_feed():
                 self.take(b"\n")
-            # The server tells of a payload that is cut off.
+            # The server reports a payload that is cut off.
             self.asked += self.items.is_cut()
         self.send()
 
@@ -65,7 +65,7 @@ class Talk:
             self.asked += 1
 
     def send(self) -> None:
-        """Sends what the server takes now, and behind the last of it the end."""
+        """Sends as much as the server reads now, and after the last of it the end."""
         try:
             if self.unsent:
                 self.unsent = self.unsent[self.connection.send(self.unsent):]
@@ -74,11 +74,11 @@ class Talk:
         except BlockingIOError:
             pass
         except OSError:
-            # The server takes no more. What it has replied to is there, and then its end.
+            # The server reads no more. Its last replies can be read, and then its end.
             self.unsent = memoryview(b"")
 
     def show(self) -> bool:
-        """Shows the replies that came whole. Whether more can come."""
+        """Shows the replies that are complete. Returns whether more can come."""
         try:
             data = self.connection.recv(PIECE)
         except BlockingIOError:
@@ -99,7 +99,7 @@ class Talk:
 
 
 def is_file(path: str) -> bool:
-    """Whether there is something that can be an image."""
+    """Whether there is a file that can be an image."""
     try:
         kind = os.stat(path).st_mode
     except OSError:

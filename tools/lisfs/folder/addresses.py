@@ -1,5 +1,5 @@
-"""The people that a field of a mail names, each as a name and an address, read in one pass: however the field is made, each of its letters is
-looked at a few times at most. Python's own reader of such fields takes seconds for some of a few thousand letters.
+"""The people that a field of a mail names, each as a name and an address, read in one pass: whatever the field contains, each letter is read at most
+a few times. Python's own parser of such fields takes seconds for some fields of a few thousand letters.
 """
 import binascii
 import encodings
@@ -10,12 +10,12 @@ import re
 from collections.abc import Iterator
 from typing import NamedTuple
 
-# So many people of a field are told, and so many letters of the name and of the address of each. So many tokens of a field are looked at.
+# The most people of a field, the most letters of each name and of each address, and the most tokens of a field that are read.
 MOST, NAME, ADDRESS, TOKENS = 32, 100, 320, 1_024
 ENCODED = r"=\?(?P<charset>[^?\s<>,;\"]+)\?(?P<code>[bBqQ])\?(?P<coded>[^?]*)\?="
 ENCODED_WORD = re.compile(ENCODED)
-# What stands in a field: an encoded word, a text in quotes, an address in `< >`, the beginning of a comment, what parts people or ends the
-# name of a group, and anything else.
+# The tokens of a field: an encoded word, a quoted text, an address in `< >`, the beginning of a comment, a separator of people or the end of a
+# group's name, and anything else.
 TOKEN = re.compile(rf"(?P<word>{ENCODED})|\"(?P<quoted>(?:[^\"\\]+|\\.)*)\"?|<(?P<angle>[^>]*)>?|(?P<comment>\()|(?P<end>[,;:])"
                    r"|(?P<text>[^=\"<(,;:]+|.)")
 IN_COMMENT = re.compile(r"[()]|\\.")
@@ -24,7 +24,7 @@ NO_NAME = re.compile(r"[@\[\]>\\]")
 
 
 class Person(NamedTuple):
-    """Somebody whom a field names. What the field does not say is empty."""
+    """A person whom a field names. What the field does not say is empty."""
 
     name: str
     address: str
@@ -32,14 +32,14 @@ class Person(NamedTuple):
 
 @functools.cache
 def charsets() -> frozenset[str]:
-    """Character sets that there are. To look for another one takes long, since it could be in a file."""
+    """Character sets that exist. Looking for another one takes long, since it could be in a file."""
     import encodings.aliases
     import pkgutil
     return frozenset((*encodings.aliases.aliases, *(module.name for module in pkgutil.iter_modules(encodings.__path__))))
 
 
 def people(field: str) -> list[Person]:
-    """The name and the address of each of the first people of a field, where one of them is none it is empty."""
+    """The name and the address of each of the first people of a field; an address is empty if there is none."""
     return list(itertools.islice(found(re.sub(r"[\r\n]+", "", field)), MOST))
 
 
@@ -51,7 +51,7 @@ def found(field: str) -> Iterator[Person]:
     while at < len(field) and tokens < TOKENS:
         tokens += 1
         token = TOKEN.match(field, at)
-        # The last group of it takes any letter.
+        # The last group of the pattern matches any letter.
         assert token
         at, more = token.end(), token["text"] or token["word"] or ""
         if token["comment"]:
@@ -64,7 +64,7 @@ def found(field: str) -> Iterator[Person]:
             if token["end"] != ":":
                 yield from person("".join(said), "".join(plain), angle)
             said, plain, angle = [], [], None
-        # Behind `< >` nothing is meant, up to the next person.
+        # Text after `< >` is ignored, up to the next person.
         if angle is None:
             said.append(more)
             plain.append(token["text"] or "")
@@ -72,7 +72,7 @@ def found(field: str) -> Iterator[Person]:
 
 
 def behind_comment(field: str, at: int) -> int:
-    """Where a comment ends that begins before here. Comments may stand in one another."""
+    """Where a comment ends that begins before this position. Comments can be nested."""
     depth = 1
     for mark in IN_COMMENT.finditer(field, at):
         depth += {"(": 1, ")": -1}.get(mark[0], 0)
@@ -82,7 +82,7 @@ def behind_comment(field: str, at: int) -> int:
 
 
 def person(said: str, plain: str, angle: str | None) -> Iterator[Person]:
-    """One person, or none. In front of `< >` a name has such a sign in quotes alone: what has one without is an address."""
+    """One person, or none. Before `< >` a name contains `@` only in quotes: without quotes such a text is an address."""
     sign = NO_NAME.search(plain)
     if angle is not None and not sign:
         yield Person(decoded(said[:4 * ADDRESS])[:NAME], angle[:ADDRESS].strip())
@@ -93,7 +93,7 @@ def person(said: str, plain: str, angle: str | None) -> Iterator[Person]:
 
 
 def decoded(text: str) -> str:
-    """A text with its encoded words as they are meant."""
+    """A text with its encoded words decoded."""
     return ENCODED_WORD.sub(lambda word: decoded_word(word["charset"], word["code"], word["coded"]), text)
 
 

@@ -49,7 +49,7 @@ from lisfs.refusals import cause_of
 from lisfs.showing import harmless, write_line
 from lisfs.words import head_of, is_assignable, mapped
 
-# So many causes of refusals are named.
+# How many causes of refusals are named.
 SOME = 3
 
 
@@ -67,7 +67,7 @@ class Options(argparse.Namespace):
 
 
 class Taken(NamedTuple):
-    """A file that is taken, its name and its words."""
+    """A file that is taken, with its name and its words."""
 
     found: walk.Found
     name: bytes
@@ -75,7 +75,7 @@ class Taken(NamedTuple):
 
 
 class Command(NamedTuple):
-    """A command of the session, and its bytes, if there are some."""
+    """A command of the session, and its bytes, if any."""
 
     words: Words
     payload: bytes | None = None
@@ -88,7 +88,7 @@ class Import:
         self.names: set[str] = set()
         self.declared: dict[bytes, None] = {}
         self.taken = self.blocks = self.renamed = self.beyond = self.beyond_files = self.looked = self.older = 0
-        # The folders whose word is another than their name, or none, and the words that stand for two folders.
+        # The folders whose word differs from their name, or that have none, and the words that represent two folders.
         self.odd_folders: set[str] = set()
         self.double_words: set[bytes] = set()
         self.told_words: dict[bytes, str] = {}
@@ -98,7 +98,7 @@ class Import:
         self.telling.tell(line)
 
     def name_for(self, wanted: str, path: str) -> bytes:
-        """A name of its own for a file, and the cause where it is another than the file's."""
+        """A unique name for a file. If it differs from the file's own name, the cause is reported."""
         name = mapped(os.fsencode(wanted))[-MAX_WORD:].decode()
         if name in (".", ".."):
             name = "_" + name
@@ -116,7 +116,7 @@ class Import:
         return free.encode()
 
     def word_for(self, folder: str) -> bytes:
-        """The word of a folder. Where it is another than the folder's name, or none, that is told once."""
+        """The word of a folder. If it differs from the folder's name, or if there is none, that is reported once."""
         whole = folder_value(folder)
         word = whole[:MAX_WORD]
         if word != os.fsencode(folder) and folder not in self.odd_folders:
@@ -127,7 +127,7 @@ class Import:
         return word
 
     def words_of(self, folders: Sequence[str]) -> list[bytes]:
-        """The words that all are given, and one for each folder."""
+        """The words that every file is given, and one for each folder."""
         words = list(self.words)
         for folder in folders if self.by_folder else []:
             word = self.word_for(folder)
@@ -145,11 +145,11 @@ class Import:
         self.telling.progress(lambda: f"{counted(self.looked, 'file')} looked at")
 
     def read(self, words: Options) -> None:
-        """What there is to take, the newest first, and the words that it needs."""
+        """Finds the files to take, the newest first, and the words that they need."""
         self.entries = entries = Entries(words.folder, self.largest, self.words_of, self.telling.leave, self.look, words.without)
         entries.read()
         entries.choose(words.since, words.newest)
-        # Names go by the order in which files are found.
+        # Names depend on the order in which files are found.
         taken = [(newest_first(entry), found) for entry in entries.all if (found := self.take(entry))]
         self.files = [found for _, found in sorted(taken, key=lambda pair: pair[0])]
 
@@ -172,7 +172,7 @@ class Import:
         return Taken(found, name, words)
 
     def commands(self) -> Iterator[Command]:
-        """Each command of the session. A file that can't be read by now is left out."""
+        """Each command of the session. A file that can no longer be read is left out."""
         for word in self.declared:
             yield Command((b"mkdir", word))
         for found, name, words in self.files:
@@ -193,7 +193,7 @@ class Import:
             self.telling.progress(lambda: f"{self.taken} of {counted(len(self.files), 'file')}")
 
     def carry(self, out: BinaryIO, largest: "Largest") -> None:
-        """Writes the session, and lets the largest image take it too."""
+        """Writes the session, and sends it to the largest image too."""
         for words, payload in self.commands():
             out.write(b" ".join(words) + b"\n")
             if payload is not None:
@@ -232,19 +232,19 @@ class Import:
 
 
 class Session(NamedTuple):
-    """A session that runs, and what sends it commands."""
+    """A session that runs, and what sends commands to it."""
 
     program: Program
     sender: Sender
 
 
 class Largest:
-    """The largest image there is, where the program is built: `known` is how many words it knows at the end, those derived from files among
-    them, and `refused` how many lines it refused. `why` says why it can't tell."""
+    """The largest image that can exist, if the program is built: `known` is how many words it knows at the end, those derived from files among them,
+    and `refused` how many lines it refused. `why` says why these can't be counted."""
 
     def __init__(self, folder: str, version: int) -> None:
         self.version, self.known = ["v2"] if version == 2 else [], 0
-        # How many lines it refused by each cause, and the words that it has declared.
+        # How many lines it refused for each cause, and the words that it has declared.
         self.refused: collections.Counter[str] = collections.Counter()
         self._declared: set[bytes] = set()
         self.why: str | None = None

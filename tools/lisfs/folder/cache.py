@@ -1,9 +1,9 @@
-"""What mails and pieces of music gave at an earlier run, so that those that have not changed since need not be read again.
+"""What an earlier run read from mails and pieces of music, so that those that have not changed since need not be read again.
 
-A file is taken for the one of then where its path, its size, its number and its times of modification and of change are the same, and where
-these times were old enough then that each later change has other ones. All of it is only a cache: what is missing, damaged, of another folder
-or of another version of what reads files is not believed, and is made again. It lies in `$XDG_CACHE_HOME/lisfs`, or else in
-`~/.cache/lisfs`, may be removed at any time, and has what its owner alone may read.
+A file counts as unchanged if its path, its size, its inode number and its times of modification and of change are the same, and if these times were
+old enough then that each later change gets other times. All of it is only a cache: a record that is missing, damaged, of another folder or of another
+version of the readers is ignored, and made again. The cache is in `$XDG_CACHE_HOME/lisfs`, or else in `~/.cache/lisfs`, may be removed at any time,
+and only its owner may read it.
 """
 import contextlib
 import functools
@@ -23,15 +23,15 @@ from lisfs.own import folder_of, read_own, write_whole
 
 FORM = 2
 
-# What tells a file from a changed one.
+# What distinguishes a file from a changed one.
 Times: TypeAlias = list[int]
-# What a file gave: parts that `json` can write.
+# What was read from a file: parts that `json` can write.
 Record: TypeAlias = Sequence[object]
 R = TypeVar("R")
 
 
 class Kept(NamedTuple):
-    """The record of a file that had these times, and by what it was made."""
+    """The record of a file that had these times, and the rules by which it was made."""
 
     times: Times
     rules: str
@@ -39,7 +39,7 @@ class Kept(NamedTuple):
 
 
 class Cache(Protocol):
-    """What earlier runs can be asked of: `Remembered`, or `Nothing`."""
+    """What the results of earlier runs are looked up in: `Remembered`, or `Nothing`."""
 
     def record(self, found: walk.Found, rules: str, kind: Callable[..., R]) -> R | None: ...
 
@@ -49,7 +49,7 @@ class Cache(Protocol):
 
 
 class Remembered:
-    """What the files below a folder gave. A record is what `json` can write, and `rules` says by what it was made."""
+    """What was read from the files below a folder. A record is what `json` can write, and `rules` identifies the code that made it."""
 
     def __init__(self, folder: str) -> None:
         self.folder = os.path.realpath(folder)
@@ -60,7 +60,7 @@ class Remembered:
         self._is_other = False
 
     def record(self, found: walk.Found, rules: str, kind: Callable[..., R]) -> R | None:
-        """What a file gave, as a record of this kind, or None where that is not known."""
+        """What was read from a file, as a record of this kind, or None if that is not known."""
         had = self._was.get(os.path.join(*found.parts))
         if not had or found.kind is None or (had.times, had.rules) != (times_of(found.kind), rules):
             return None
@@ -68,13 +68,13 @@ class Remembered:
         return kind(*had.record)
 
     def keep(self, found: walk.Found, times: Times | None, rules: str, record: Record) -> None:
-        """Keeps what a file gave that had these times, None being times that don't tell it from a later one."""
+        """Keeps what was read from a file that had these times. None means times that don't distinguish it from a later version."""
         if times:
             self._now[os.path.join(*found.parts)] = Kept(times, rules, record)
             self._is_other = True
 
     def save(self) -> None:
-        """Writes all that is known now, whole or not at all. Where it can't be written the next run reads the files."""
+        """Writes all that is known now, whole or not at all. If it can't be written, the next run reads the files."""
         if not self._is_other and len(self._now) == len(self._was):
             return
         body = json.dumps({"form": FORM, "version": version(), "folder": self.folder, "files": self._now}).encode()
@@ -112,7 +112,7 @@ def cache_folder() -> str:
 
 @functools.cache
 def version() -> str:
-    """Another one wherever a file may give something else: the sources that read it, and Python."""
+    """Differs whenever a file may give another record: it covers the sources that read files, and Python."""
     digest = hashlib.sha256(f"{sys.version} {unicodedata.unidata_version}".encode())
     for module in (addresses, constants, derived, forms, mails, music, words):
         with open(str(module.__file__), "rb") as file:
@@ -125,15 +125,15 @@ def times_of(kind: os.stat_result) -> Times:
 
 
 def settled(before: os.stat_result, after: os.stat_result, now: int) -> Times | None:
-    """The times of a file that was looked at before and after it was read, the reading having begun now; or None where a change of
-    it may have the same ones."""
+    """The times of a file that was looked at before and after it was read, the reading having begun now; or None if a later change of it may have the
+    same times."""
     newest = max(before.st_mtime_ns, before.st_ctime_ns)
     is_old = newest + (STEP if newest % 10**9 else WHOLE) < now
     return times_of(before) if is_old and times_of(before) == times_of(after) else None
 
 
 def read(found: walk.Found, most: int) -> tuple[bytes, Times | None]:
-    """The bytes of a file, as `walk.content` gives them, and its times, or None in place of these."""
+    """The bytes of a file, as `walk.content` returns them, and its times, or None instead of these."""
     with walk.opened(found) as file:
         before, now = os.fstat(file.fileno()), time.time_ns()
         content = file.read(most + 1)

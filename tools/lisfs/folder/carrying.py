@@ -1,7 +1,7 @@
-"""The commands that bring changes into an image, many ahead of their replies.
+"""The commands that make changes in an image, many sent ahead of their replies.
 
-A file that is a folder's own is removed, written and given other words at the place of the folder's marker alone: what hasn't this word is
-not there, so the program itself keeps all other files out of it.
+A folder's own file is removed, written and given other words only at the place of the folder's marker: a file without this word is not there, so the
+program itself protects all other files.
 """
 import collections
 import contextlib
@@ -22,15 +22,15 @@ from lisfs.folder.room import Room, Short
 from lisfs.refusals import REFUSALS, cause_of, named
 from lisfs.words import head_of, stem_of
 
-# So many commands, and bytes of files, are under way at most.
+# The most commands, and bytes of files, that are sent and not replied to.
 AHEAD, AHEAD_BYTES = 2_048, 4_194_304
-# How many bytes the pipe to the program should hold, so that many commands lie in it at once.
+# How many bytes the pipe to the program should hold, so that many commands fit in it at once.
 PIPE = 1_048_576
-# So many words stand in one place at most.
+# The most words of one place.
 PLACED = 8
 ROOT = b"/"
 NO_MORE_FILES, NO_MORE_WORDS = REFUSALS[NO_FILE_ROOM].cause or "", REFUSALS[NO_PROPERTY_ROOM].cause or ""
-# So many words, with their heads, a file gives the image by its name and its size at most, and so many heads more by its bytes.
+# The most words, with their heads, that a file brings by its name and its size, and the most heads more by its bytes.
 BY_NAME, HEADS_BY_BYTES = 4, len(derived.HEADS)
 FEWER_WORDS_HELP = (NO_PROPERTY_ROOM, LARGE_DESCRIPTION)
 
@@ -47,12 +47,12 @@ class Step(NamedTuple):
     payload: bytes | None = None
 
 
-# It yields its steps, and is given of each the refusal, or None.
+# Yields its steps, and receives for each the refusal, or None.
 Job: TypeAlias = Generator[Step, Refused | None, None]
 
 
 class Pending(NamedTuple):
-    """A command that was sent, and how many bytes with it. The job is None if the command leads to the place of the next one."""
+    """A command that was sent, and how many bytes were sent with it. The job is None if the command goes to the place of the next one."""
 
     job: Job | None
     words: Words
@@ -60,14 +60,14 @@ class Pending(NamedTuple):
 
 
 class Completed(NamedTuple):
-    """The words that a file got, and how many would be too many for it."""
+    """The words that a file got, and how many were too many for it."""
 
     given: list[bytes]
     large: int
 
 
 class Half(NamedTuple):
-    """The name of a file of which a change is made by half, and what was done."""
+    """The name of a file whose change is half made, and what was done."""
 
     name: bytes
     done: list[str]
@@ -78,13 +78,13 @@ class Told(Protocol):
 
 
 def session_word() -> str:
-    """The word of the program by which changes go: `load`, which keeps many at a time, where its usage names it, and else `run`."""
+    """The word of the program that runs the changes: `load`, which makes many durable at a time, if its usage text lists it, else `run`."""
     usage = subprocess.run([PROGRAM], stdin=subprocess.DEVNULL, capture_output=True, check=False).stderr
     return "load" if re.search(rb"^\S+ load IMAGE\b", usage, re.M) else "run"
 
 
 class Sender:
-    """Carries out jobs. The place of a step is where the program is by then, so that `cd` stands between only where another one is needed."""
+    """Runs jobs. A `cd` is sent only before a step whose place is not where the program is."""
 
     def __init__(self, program: Program) -> None:
         self._program, self._place, self._bytes = program, ROOT, 0
@@ -99,13 +99,13 @@ class Sender:
             self._take()
 
     def finish(self) -> None:
-        """Until each job has come to its end."""
+        """Waits until each job has ended."""
         while self._waiting:
             self._take()
 
     def ask(self, *commands: Words) -> Iterator[list[BodyLine]]:
-        """The lines that commands show at the root, when each job has come to its end; all of them have to be taken. One is refused only if
-        another client of a served image has just removed its file: it shows none."""
+        """The lines that commands show at the root, after each job has ended; the caller must consume them all. A command is refused only if another
+        client of a served image has just removed its file: it shows none."""
         self.finish()
         if self._place != ROOT:
             self._program.cd(ROOT)
@@ -146,7 +146,7 @@ class Sender:
         if job is not None:
             self._go_on(job, refusal)
         elif refusal is not None:
-            # All that is under way would be done elsewhere. A place of words that files have is never refused, unless another client of a
+            # All commands that are under way would run elsewhere. A place of words that files have is never refused, unless another client of a
             # served image takes the last file from it.
             raise RuntimeError(f"{refusal.command}: {named(refusal)}")
 
@@ -156,25 +156,25 @@ class NoRoom(Exception):
 
 
 class Carrying:
-    """Carries changes into an image. `told` is called for each that was made, with what was done, a name and more; `failed` is
-    called with a path and why. First come `declare` and `remember`, then `run`, and at the end `remember` again."""
+    """Makes changes in an image. `told` is called for each change that was made, with what was done, a name and more; `failed` is called with a path
+    and why. First come `declare` and `remember`, then `run`, and at the end `remember` again."""
 
     def __init__(self, sender: Sender, plan: Changes, room: Room, told: Told, failed: walk.Leave) -> None:
         self.sender, self.plan, self.room, self.told, self.failed = sender, plan, room, told, failed
         self.largest, self.place = room.limits.file_bytes, ROOT + plan.marker
-        # Words of which a file can be given more without a further one becoming known.
+        # Words that a file can be given without another word becoming known.
         self.known = known_words(plan)
-        # Whether no word can become known any more.
+        # Whether no further word can become known.
         self.is_full = False
-        # The names that files have in the image, and of each change of a file that is there its name and what was done so far.
+        # The names that files have in the image, and for each change of an existing file its name and what was done so far.
         self.names, self.halves = set(plan.dump.files), dict[str, Half]()
-        # Words that there was no room for, the files that they belong to, and files that are named so that the program derives fewer; and words
-        # that would be too many for their files, with all that is entailed and derived.
+        # Counts of words that there was no room for, of their files, of files that are named so that the program derives fewer words, and of words
+        # that would be too many for their files, with all that is entailed and derived, and of these files.
         self.without = self.without_files = self.lean = self.too_many = self.too_many_files = 0
-        # The keys of files that there was not enough room for, and what there was not enough of.
+        # The keys of files that there was not enough room for, and what was short.
         self.short: set[str] = set()
         self.lacks_files = self.lacks_words = self.lacks_blocks = False
-        # The words of the image that name what was brought in, and whether there was no room for one.
+        # The words of the image that name a memory, and whether there was no room for one.
         self.memories, self.is_forgetful = set(memory.words_of_memories(plan.marker, plan.dump.declared)), False
 
     def declare(self) -> None:
@@ -189,7 +189,7 @@ class Carrying:
             raise NoRoom("the image has no room for a further word, and a folder's files need one of their own")
 
     def remember(self, word: bytes | None) -> None:
-        """From now on the image names the memory of this word, or none."""
+        """Makes the image name the memory of this word, or none."""
         self.sender.start(self._remember(word))
         self.sender.finish()
 
@@ -198,7 +198,7 @@ class Carrying:
         if word is not None and word not in self.memories:
             refusal = yield Step(ROOT, (b"mkdir", word))
             if refusal is not None and olds:
-                # One of before makes room for it.
+                # Removing an earlier one makes room for it.
                 yield Step(ROOT, (b"rmdir", olds.pop()))
                 refusal = yield Step(ROOT, (b"mkdir", word))
             self.is_forgetful = refusal is not None
@@ -207,7 +207,7 @@ class Carrying:
         self.memories = set() if word is None or self.is_forgetful else {word}
 
     def run(self) -> None:
-        """First all that makes room, and the bytes of files that are there. Then the words of these and the new files, the newest first."""
+        """First all that makes room, and the bytes of existing files. Then the words of these and the new files, the newest first."""
         for name in self.plan.gone:
             self.sender.start(self._remove(name))
         for change in self.plan.changes:
@@ -223,7 +223,7 @@ class Carrying:
 
     def _start_new(self, change: Change) -> None:
         if self.room.files <= 0:
-            # One that is under way may be refused.
+            # A file that is under way may be refused.
             self.sender.finish()
         if self.room.files <= 0:
             self._lacks(change, NO_FILE_ROOM)
@@ -233,7 +233,7 @@ class Carrying:
             self.sender.start(self._add(change))
 
     def _measure(self) -> None:
-        """Looks how much room there is now, and for which words, if that may be too little."""
+        """Finds how much room there is now, and for which words, if that may be too little."""
         counts, = map(counts_in, self.sender.ask((b"stat",)))
         if self.room.measure(counts, sum(map(most_words, self.plan.changes))):
             known = {text for lines in self.sender.ask(*((b"props", name) for name in sorted(self.names))) for _, text in lines}
@@ -285,7 +285,7 @@ class Carrying:
         """Names and words for which there is room, as far as is known, each to be tried if the one before was refused."""
         gains, all_names = self._declared(change.gains), [change.name]
         if derived.has_many(change.name) and (lean := names.lean(change.name, change.entry.is_mail)) not in self.plan.taken:
-            # Of a file that isn't named so the program derives fewer words.
+            # From a file with the lean name the program derives fewer words.
             all_names.append(lean)
         for name in all_names:
             own = self.room.words_of(name, content)
@@ -294,7 +294,7 @@ class Carrying:
                     yield name, given
 
     def _added(self, change: Change, name: bytes, given: list[bytes]) -> Job:
-        """A new file is there. It gets the words that did not fit its line, or for which there is room one by one."""
+        """Completes a new file, which exists now: gives it the words that did not fit its line, or those for which there is room one by one."""
         self.names.add(name)
         given, large = yield from self._complete(ROOT, name, self._declared(change.gains), given)
         self._lacking(change, len(change.gains) - len(given), large)
@@ -302,7 +302,7 @@ class Carrying:
         self.told(Done.NEW, name, change.entry.found.path)
 
     def _lacks(self, change: Change, number: int) -> None:
-        """Notes that there is not enough room for a file, if that is what a refusal means."""
+        """Notes that there is not enough room for a file, if the refusal means that."""
         self.lacks_files = self.lacks_files or number == NO_FILE_ROOM
         self.lacks_words = self.lacks_words or number == NO_PROPERTY_ROOM
         self.lacks_blocks = self.lacks_blocks or number == NO_SPACE
@@ -313,14 +313,14 @@ class Carrying:
         content = walk.content(entry.found, self.largest)
         if len(content) > self.largest:
             raise OSError(0, f"more than {self.largest} bytes; a file has no more")
-        # What is brought in is what is there now.
+        # The bytes that are written are those that the file has now.
         entry.read_from(content)
         return content
 
-    # A file that is there.
+    # A file that exists.
 
     def _prepare(self, change: Change) -> Job:
-        """The first half of a change: the name, the words that go, and the bytes."""
+        """The first half of a change: the name, the words that are removed, and the bytes."""
         entry, name, refusal, done = change.entry, change.name, None, []
         if change.was is not None:
             if (yield Step(self.place, (b"rename", change.was, name))) is not None:
@@ -345,7 +345,7 @@ class Carrying:
             self.failed(entry.found.path, cause_of(refusal, self.known))
 
     def _end(self, change: Change, half: Half) -> Job:
-        """The second half: the words that come."""
+        """The second half: the words that are added."""
         name, done = half
         given, large = yield from self._complete(self.place, name, self._declared(change.gains), [])
         self._lacking(change, len(change.gains) - len(given), large)
@@ -365,12 +365,12 @@ class Carrying:
     # Words that there may be no room for.
 
     def _declared(self, words: Sequence[bytes]) -> list[bytes]:
-        """Those of some words whose heads are declared: for a head too there may be no room."""
+        """Those of some words whose heads are declared: a head needs room too."""
         return [word for word in words if stem_of(word) + b":" in self.known]
 
     def _tries(self, gains: Sequence[bytes], to_the_end: bool) -> Iterator[Sequence[bytes]]:
-        """Lists of words to make a file with, each tried where the one before was refused: with all words, with those that are known
-        already; and at the end, where one is wanted, without any."""
+        """Lists of words to make a file with, each tried if the one before was refused: with all words, with those that are known already; and at the
+        end, if wanted, without any."""
         known = [word for word in gains if word in self.known]
         tries = [known] if self.is_full else [list(gains), known]
         for number, words in enumerate(tries + [[]] if to_the_end else tries):
@@ -378,8 +378,8 @@ class Carrying:
                 yield words
 
     def _complete(self, place: bytes, name: bytes, gains: Sequence[bytes], given: list[bytes]) -> Generator[Step, Refused | None, Completed]:
-        """Gives a file the words that it has not, as far as there is room: in few commands, or where these are refused one by one. Returns
-        all that it has then, and how many would be too many for it."""
+        """Gives a file the words that it lacks, as far as there is room: in few commands, or one by one if these are refused. Returns all given words
+        that it has then, and how many were too many for it."""
         self.known.update(given)
         large = 0
         missing = [word for word in gains if word not in given and self.room.take([word])]
@@ -425,7 +425,7 @@ class Carrying:
 
 
 def most_words(change: Change) -> int:
-    """How many words can become known by a change at most."""
+    """The most words that can become known by a change."""
     if not change.is_new:
         return len(change.gains)
     by_bytes = min(change.entry.derived or MAX_DERIVED, MAX_DERIVED) + HEADS_BY_BYTES if derived.has_many(change.name) else 0
@@ -433,7 +433,7 @@ def most_words(change: Change) -> int:
 
 
 def fitting(name: bytes, words: Sequence[bytes]) -> tuple[list[bytes], Sequence[bytes]]:
-    """A name and as many words as fit the line that makes a file, also one of a served image, and the words that don't."""
+    """A name and as many words as fit the line that makes a file, also for a served image, and the words that don't."""
     room, line = ROOM_LINE - len(b"add  %d" % MAX_PAYLOAD) - len(name), [name]
     for number, word in enumerate(words):
         room -= len(word) + 1
@@ -444,7 +444,7 @@ def fitting(name: bytes, words: Sequence[bytes]) -> tuple[list[bytes], Sequence[
 
 
 def known_words(plan: Changes) -> set[bytes]:
-    """The words that somebody has given, or declared, and that stay."""
+    """The words that somebody has given, or declared, and that remain."""
     gone, losing = set(plan.gone), {change.was or change.name: set(change.loses) for change in plan.changes if change.loses}
     known = set(plan.dump.declared)
     for name, (_, words) in plan.dump.files.items():

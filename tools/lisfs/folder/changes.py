@@ -1,8 +1,8 @@
-"""What is new, changed or gone in a folder, and what was changed in the image, beside what earlier runs brought in.
+"""What is new, changed or gone in a folder, and what was changed in the image, compared with what earlier runs brought in.
 
-The files of an image that are a folder's own have its marker, a word `sync:NAME`. Values of the heads in `HEADS` are the folder's too, on
-these files: all others that they have somebody gave them, and they stay. The records of `memory` say what was brought in: what changed in
-the folder alone is brought in, what changed in the image alone stays, and what changed on both sides is a conflict, which is left.
+A folder's own files in an image have its marker, a word `sync:NAME`. On these files, values of the heads in `HEADS` are the folder's too: somebody
+gave them all their other words, which stay. The records of `memory` say what was brought in: what changed only in the folder is brought in, what
+changed only in the image stays, and what changed on both sides is a conflict, which is left.
 """
 import enum
 import hashlib
@@ -22,18 +22,19 @@ from lisfs.words import head_of, stem_of
 
 MARKER, FOLDER = b"sync", b"in"
 HEADS = frozenset(head + b":" for head in (FOLDER, *mails.HEADS, *music.HEADS))
-# So much more than a word of the folder, or a suffix, common bytes say of two files that they are one.
+# How much more the common bytes of two files count than a common word of the folder, or suffix, as evidence that the files are one; and the part of
+# it for unknown bytes.
 SHARED, UNKNOWN_PART = 4, 0.3
-# The digest of no bytes, and what is no digest.
+# The digest of no bytes, and a value that is no digest.
 NO_BYTES, NOTHING = hashlib.sha256().hexdigest(), ""
 
-# Why a conflict is one.
+# The causes of conflicts.
 BOTH, GONE = "changed in the folder and in the image", "gone from the folder, and changed in the image"
 UNKNOWN, UNKNOWN_GONE = "not the same in the folder and in the image", "not in the folder"
 
 
 class Done(enum.Enum):
-    """What was done with a file. It is the same if nothing was, since there was no room for further words."""
+    """What was done with a file. `SAME` means nothing, since there was no room for further words."""
 
     NEW = "new"
     CHANGED = "changed"
@@ -45,8 +46,8 @@ class Done(enum.Enum):
 
 
 class Change(NamedTuple):
-    """A file as it is to be: the key of its record, its name, the name that the image has for it where that is another one, its entry, the words
-    that it loses and gains, whether it is new, whether it gets the folder's bytes, and whether it was found again elsewhere in the folder."""
+    """The wanted state of a file: the key of its record, its name, its name in the image if that differs, its entry, the words that it loses and
+    gains, whether it is new, whether it gets the folder's bytes, and whether it was found again elsewhere in the folder."""
 
     key: str
     name: bytes
@@ -60,15 +61,15 @@ class Change(NamedTuple):
 
 
 class Side(enum.Enum):
-    """By what a conflict is settled: by what the image has, or by what the folder has."""
+    """Which side settles a conflict: the image, or the folder."""
 
     OURS = "ours"
     THEIRS = "theirs"
 
 
 class Wishes(NamedTuple):
-    """By what conflicts are settled that are not to be left: all of them, and those of files that are named. And whether files that were removed
-    from the image come again."""
+    """Which side settles conflicts that must not be left: all of them, and those of named files. And whether files that were removed from the image
+    are restored."""
 
     side: Side | None = None
     named: Mapping[str, Side] = MappingProxyType({})
@@ -76,7 +77,7 @@ class Wishes(NamedTuple):
 
 
 class Conflict(NamedTuple):
-    """What is in conflict, and why it is."""
+    """The file in conflict, and why."""
 
     text: str
     why: str
@@ -94,13 +95,13 @@ Keyed: TypeAlias = list[tuple[str, Entry]]
 
 
 def folder_words(folders: Sequence[str]) -> list[bytes]:
-    """The words for the folders that a file lies in."""
+    """The words for the folders that contain a file."""
     values = [folder_value(name)[:MAX_WORD - len(FOLDER) - 1] for name in folders]
     return [FOLDER + b":" + value for value in values if value]
 
 
 def key_of(entry: Entry, marker: bytes) -> str:
-    """What the record of a file is known by."""
+    """The key of a file's record."""
     return "mail:" + entry.names(marker, False)[0].decode() if entry.is_mail else "file:" + entry.found.key
 
 
@@ -110,28 +111,27 @@ def path_of(entry: Entry) -> str:
 
 
 def gone_path(key: str | None) -> str | None:
-    """The same of a file that is gone, by the key of its record. Of a mail of a maildir the key does not say it."""
+    """The path of a file that is gone, from the key of its record. The key of a mail of a maildir does not have it."""
     kind, _, path = (key or "").partition(":")
     return path if kind == "file" else None
 
 
 def base_of(key: str) -> str:
-    """The name that a key ends with."""
+    """The last part of the path in a key."""
     return os.path.basename(key.partition(":")[2])
 
 
 class Changes:
-    """`changes` are those of files that the folder has, `gone` the names of those that it has no more, and `same` counts the others.
-    Entries that can't be taken are `refused`: what the image holds of them stays. `beyond` counts the words that are too many for a file,
-    and `beyond_files` the files that they belong to.
+    """`changes` are those of files that the folder has, `gone` the names of files that it no longer has, and `same` counts the others. Entries that
+    can't be taken are `refused`: what the image holds of them stays. `beyond` counts the words that are too many for a file, and `beyond_files` the
+    files that they belong to.
 
-    `conflicts` are left, `settled` has the names in `wishes.named` by which one was settled, `edited` are the names of files that stay as the
-    image has them, `away` the paths of those that stay away from it, and `renamed` are those that have another name in the image. `unseen`
-    counts files that are not removed, since not all of the folder was seen.
-    `older` counts files that are older than those that are wanted and don't come in, `out` has the names of those in `gone` that go for this
-    reason alone, and `staying` counts those that stay all the same, since somebody changed them in the image.
-    `records` say what is so before any change, and what was done after it. `bytes_of` gives the bytes of a file of the image, and
-    `top` is the path of the folder."""
+    `conflicts` are left, `settled` has the names in `wishes.named` that settled one, `edited` are the names of files that stay as the image has them,
+    `away` the paths of files that stay out of the image, and `renamed` are those that have another name in the image. `unseen` counts files that are
+    not removed, since not all of the folder was seen. `older` counts files that are older than wanted and don't come in, `out` has the names of those
+    in `gone` that are removed only for this reason, and `staying` counts those that stay nevertheless, since somebody changed them in the image.
+    `records` describe the state before any change, and after it what was done. `bytes_of` returns the bytes of a file of the image, and `top` is the
+    path of the folder."""
 
     def __init__(self, entries: Iterable[Entry], dump: Dump, marker: bytes, is_lean: bool = False, records: Records | None = None,
                  wishes: Wishes = Wishes(), is_blind: bool = False, bytes_of: Callable[[bytes], bytes] | None = None, top: str = "") -> None:
@@ -148,10 +148,10 @@ class Changes:
         self.same = self.beyond = self.beyond_files = self.unseen = self.older = self.staying = 0
         self.own_names = {name for name, (_, words) in dump.files.items() if marker in words}
         self.own = len(self.own_names)
-        # Names in the image that a file of the folder has, and those that no new one can have.
+        # Names in the image that belong to a file of the folder, and those that no new file can have.
         self.kept: set[bytes] = set()
         self.taken = set(dump.files)
-        # The key of the record of each that is gone, or None.
+        # The key of the record of each file that is gone, or None.
         self.gone_keys: dict[bytes, str | None] = {}
         self.records = settled(records or {}, self._digest)
         self.keyed = keyed = [(key_of(entry, marker), entry) for entry in entries]
@@ -161,9 +161,9 @@ class Changes:
         self.moved = self._find_moved(keyed)
         self._find_edited(dict(keyed), bytes_of)
         self._tell_mails_apart(keyed)
-        # Those of files that were only seen have served.
+        # The records of files that were only seen are no longer needed.
         self.records = {key: record for key, record in self.records.items() if (record.folder, record.image) != (None, None)}
-        # The names of files that the folder has or had are those of their records alone.
+        # A name of a file that the folder has or had belongs to its record alone.
         self.claimed = {record.name for record in self.records.values() if record.folder is not None}
         for key, entry in [(key, entry) for key, entry in keyed if not self._held(key, entry)]:
             self._fresh(key, entry)
@@ -172,13 +172,13 @@ class Changes:
         self.changes.sort(key=lambda change: newest_first(change.entry))
 
     def _digest(self, name: str) -> str | None:
-        """The digest of one of the folder's files in the image, or None where it is not there."""
+        """The digest of one of the folder's files in the image, or None if it is missing."""
         return self.dump.digests[name.encode()].hex() if name.encode() in self.own_names else None
 
     # Files with another name than before.
 
     def _find_renamed(self) -> None:
-        """Files that somebody renamed in the image are found again by their bytes: those that they had at the last run, or had before."""
+        """Finds files that somebody renamed in the image by their bytes: those of the last run, or of before."""
         free: dict[str | None, list[str]] = {}
         for name in sorted(self._unnamed()):
             free.setdefault(self._digest(name), []).append(name)
@@ -188,12 +188,12 @@ class Changes:
                 self._rename(key, free[digests[0]].pop(0))
 
     def _unnamed(self) -> set[str]:
-        """The names of the folder's files in the image that no record has."""
+        """The names of the folder's files in the image that are in no record."""
         return {name.decode() for name in self.own_names} - {record.name for record in self.records.values()}
 
     def _find_edited(self, entries: dict[str, Entry], bytes_of: Callable[[bytes], bytes] | None) -> None:
-        """Files that somebody edited and renamed in the image are found again by what they have in common with before. Each file with the
-        folder's word was one of its files, so one that no record names is one of those that are lost since the last run."""
+        """Finds files that somebody edited and renamed in the image by what they have in common with before. Each file with the folder's word was one
+        of its files, so a file in no record is one of those that were lost since the last run."""
         lost = {key for key, record in self.records.items() if record.image is not None and self._digest(record.name) is None}
         left = self._unnamed() - self._expected(entries) if lost else set()
         parts, parts_in = dict[str, set[bytes]](), dict[str, set[bytes]]()
@@ -208,7 +208,8 @@ class Changes:
                 self._rename(key, name)
 
     def _expected(self, entries: dict[str, Entry]) -> set[str]:
-        """The names that files of the folder would have which did not come in, as far as is known. A run that was stopped may have brought them in."""
+        """The names that those files of the folder would have that did not come in, as far as is known. A run that was stopped may have brought them
+        in."""
         new = [entry for key, entry in entries.items() if (record := self.records.get(key)) is None or (record.folder, record.image) == (None, None)]
         return {name.decode() for entry in new for name in entry.names(self.marker, True)}
 
@@ -217,8 +218,8 @@ class Changes:
         self.records[key] = self.records[key]._replace(name=name)
 
     def _likeness(self, key: str, entry: Entry | None, name: str) -> float:
-        """How likely a file of the image, with other bytes and another name, is the one of a record, beside what their bytes say: by the words
-        that the folder gave it, by its suffix, and by what the two names have in common."""
+        """How likely a file of the image, with other bytes and another name, is the file of a record, apart from its bytes: by the words that the
+        folder gave it, by its suffix, and by what the two names have in common."""
         was, words = self.records[key].name, {word for word in self.dump.files[name.encode()].words if head_of(word) in HEADS}
         alike = len(words & set(entry.words)) - len(words ^ set(entry.words)) / 2 if entry else 0.0
         ends = os.path.splitext(was)[1] == os.path.splitext(name)[1]
@@ -226,8 +227,8 @@ class Changes:
         return alike + ends + common / (len(was) + len(name))
 
     def _find_moved(self, keyed: Keyed) -> dict[str, str]:
-        """Files that were renamed or moved in the folder are found again by their bytes: first those whose own name is the same, and then all
-        others that are not empty. Returns their keys now."""
+        """Finds files that were renamed or moved in the folder by their bytes: first those with the same base name, and then all others that are not
+        empty. Returns their new keys, each with the old one."""
         present = {key for key, _ in keyed}
         lost: dict[str, list[str]] = {}
         for key, record in sorted(self.records.items()):
@@ -244,17 +245,17 @@ class Changes:
                 if fits and key not in found:
                     found[key] = fits[0]
                     lost[digest].remove(fits[0])
-        # A file that can't be read may be one that moved.
+        # A file that can't be read may have been moved.
         self.is_blind = self.is_blind or any(entry.found.problem for _, entry in new)
         if self.is_blind:
-            # It may be a second one with these bytes: which of both, the next run that sees all can tell.
+            # The file may be a copy with the same bytes. The next run that sees all can tell which it is.
             self.waiting = set(found)
             return {}
         entries = dict(keyed)
         for key, old in found.items():
             record = self.records.pop(old)
             if self._digest(record.name) is None:
-                # A run that was stopped may have renamed it already.
+                # A run that was stopped may already have renamed it.
                 others = {other.name for other in self.records.values()}
                 fits = [name.decode() for name in entries[key].names(self.marker, self.is_lean)]
                 record = record._replace(name=next((name for name in fits if self._digest(name) and name not in others), record.name))
@@ -262,7 +263,8 @@ class Changes:
         return found
 
     def _tell_mails_apart(self, keyed: Keyed) -> None:
-        """Of mails with one Message-ID, one more or one less gives others another key: each whose bytes are those of another's record gets that."""
+        """If several mails have one Message-ID, a mail that comes or goes changes the keys of others: each whose bytes are those of another's record
+        gets that record."""
         digests = {key: entry.digest.hex() for key, entry in keyed if entry.is_mail and entry.digest is not None}
         lost: dict[str, list[str]] = {}
         found: dict[str, str] = {}
@@ -275,7 +277,7 @@ class Changes:
         had = {key: self.records.pop(key) for key in {*found, *found.values()} if key in self.records}
         for key, old in found.items():
             self.records[key] = had.pop(old)
-        # What these keys had before is of mails that are gone, or that have other bytes and no record.
+        # The former records of these keys belong to mails that are gone, or that have other bytes and no record.
         free = [key for key in found.values() if key not in self.records]
         for key, record in sorted(had.items()):
             self.records[free.pop(0)] = record
@@ -283,7 +285,7 @@ class Changes:
     # Files of the folder.
 
     def _held(self, key: str, entry: Entry) -> bool:
-        """Judges a file that was brought in, or that the image has without a record. Whether it is one."""
+        """Judges a file that was brought in, or that the image has without a record. Returns whether it is such a file."""
         record, name = self.records.get(key), self._name_in_image(key, entry)
         if name is not None:
             self.kept.add(name.encode())
@@ -299,7 +301,7 @@ class Changes:
         return True
 
     def _is_out(self, key: str, entry: Entry, name: str, folder: str) -> bool:
-        """Whether a file goes since it is older than what is wanted. One that somebody edited, renamed or gave words to stays."""
+        """Whether a file is removed since it is older than wanted. One that somebody edited, renamed or gave words to stays."""
         if not entry.is_older:
             return False
         record, image, words = self.records.get(key), self._digest(name), self.dump.files[name.encode()].words
@@ -308,7 +310,7 @@ class Changes:
         if not (is_named and is_read and all(word == self.marker or head_of(word) in HEADS for word in words)):
             self.staying += 1
         elif self.is_blind:
-            # There may be newer ones that were not seen, or fewer.
+            # Newer files may not have been seen, or some may be gone.
             self.unseen += 1
         else:
             self.gone.append(name.encode())
@@ -318,14 +320,14 @@ class Changes:
         return False
 
     def _name_in_image(self, key: str, entry: Entry) -> str | None:
-        """The name of a file in the image, by its record, or else the first of those that it may have."""
+        """The name of a file in the image: that of its record, or else the first of its possible names."""
         if record := self.records.get(key):
             return record.name if self._digest(record.name) else None
         names = [name.decode() for name in entry.names(self.marker, self.is_lean)]
         return next((name for name in names if self._digest(name) and name.encode() not in self.kept and name not in self.claimed), None)
 
     def _folder_digest(self, entry: Entry) -> str | None:
-        """The digest of a file of the folder, or None where it can't be read, which is then its problem."""
+        """The digest of a file of the folder, or None if it can't be read, which becomes its problem."""
         try:
             return digest_of(entry).hex()
         except OSError as error:
@@ -333,11 +335,11 @@ class Changes:
             return None
 
     def _stays_away(self, key: str, entry: Entry, folder: str) -> bool:
-        """Whether a file that somebody removed from the image stays away: until it changes, or is wanted again."""
+        """Whether a file that somebody removed from the image stays out of it: until it changes, or is wanted again."""
         if self.records[key].folder != folder or self.wishes.restore:
             del self.records[key]
             return False
-        # A file that the image gets later is another one.
+        # A file that the image gets later is a different one.
         self.records[key] = self.records[key]._replace(image=None, seen=None)
         self.away.append(entry.found.path)
         return True
@@ -357,7 +359,7 @@ class Changes:
             self._change(key, entry, name, has_other_bytes=True)
         else:
             if self._side(path_of(entry), name) is Side.OURS:
-                # That the folder has other bytes was seen, and the image has others than were brought in as before.
+                # The change in the folder is noted, and the image still has other bytes than were brought in.
                 self.records[key] = Record(name, made, folder, NOTHING, seen=image)
                 self.edited.append(name)
             else:
@@ -365,8 +367,8 @@ class Changes:
             self._change(key, entry, name)
 
     def _side(self, path: str | None, name: str) -> Side | None:
-        """By what the conflict of a file is settled, or None if it is left. It is named by its path in the folder, or, if that is the path of no
-        file, by its name in the image."""
+        """Which side settles the conflict of a file, or None if it is left. A file is named by its path in the folder, or, if no file has that path,
+        by its name in the image."""
         for named in (path, None if name in self.paths else name):
             if named is not None and named in self.wishes.named:
                 self.settled.add(named)
@@ -374,7 +376,7 @@ class Changes:
         return self.wishes.side
 
     def _looked_at(self, key: str | None, name: str) -> Record | None:
-        """The record of a file, which then says which bytes the image has of it, if these are others than were brought in."""
+        """The record of a file, which then has the digest of the file's bytes in the image, if these differ from what was brought in."""
         if key is None or key not in self.records:
             return None
         record, image = self.records[key], self._digest(name)
@@ -382,7 +384,7 @@ class Changes:
         return record
 
     def _change(self, key: str, entry: Entry, name: str, has_other_bytes: bool = False, is_same: bool = False) -> None:
-        """Notes what a file gets that the image has: bytes, words, and a name where it moved in the folder and nobody gave it one."""
+        """Notes the changes of a file that is in the image: bytes, words, and a name if it moved in the folder and nobody renamed it."""
         words = self.dump.files[name.encode()][1]
         theirs = {word for word in words if word != self.marker and (head_of(word) not in HEADS or head_of(word) in entry.unread)}
         wanted = self._fitting(entry, MAX_ASSIGNED - 1 - len(theirs))
@@ -396,12 +398,12 @@ class Changes:
             self.same += is_same
 
     def _name_after_move(self, key: str, entry: Entry) -> bytes | None:
-        """The name that a file gets which moved in the folder, or None where it keeps its own."""
+        """The new name of a file that moved in the folder, or None if it keeps its name."""
         record = self.records.get(key)
         if record is None or key not in self.moved or record.name != record.made:
             return None
         all_names = entry.names(self.marker, True)
-        # One whose name is lean stays so, since the program may have no room for its words.
+        # A lean name stays lean, since the program may have no room for the words.
         names = entry.names(self.marker, self.is_lean or derived.has_many(all_names[-1]) and not derived.has_many(record.made.encode()))
         if record.made.encode() in names:
             return None
@@ -432,18 +434,18 @@ class Changes:
         self.changes.append(Change(key, name, None, entry, (), self._fitting(entry, MAX_ASSIGNED - 1), True, True, False))
 
     def _fitting(self, entry: Entry, most: int) -> tuple[bytes, ...]:
-        """The words that a file is given, so many at most."""
+        """The words that a file is given, at most `most`."""
         most = max(most, 0)
         if len(entry.words) > most:
             self.beyond += len(entry.words) - most
             self.beyond_files += 1
         return entry.words[:most]
 
-    # Files that the folder has no more.
+    # Files that are no longer in the folder.
 
     def _left(self, present: Set[str]) -> None:
         if self.is_blind:
-            # They may be where nothing was seen, and so their records stay.
+            # They may be in a part that was not seen, so their records stay.
             self.unseen += len(self.own_names - self.kept)
             return
         keys = {record.name: key for key, record in self.records.items() if key not in present}
@@ -460,15 +462,14 @@ class Changes:
             self.gone.append(name.encode())
             self.gone_keys[name.encode()] = key
         elif self._side(gone_path(key), name) is Side.OURS:
-            # Where it is not known what was brought in, no bytes are those.
+            # If it is not known what was brought in, no bytes match.
             self.records[key or "image:" + name] = Record(name, name, None, record.image if record else NOTHING, seen=self._digest(name))
             self.edited.append(name)
         else:
             self.conflicts.append(Conflict(name, GONE if record else UNKNOWN_GONE))
 
     def cut(self) -> list[tuple[str, int]]:
-        """The files that have the folder's bytes and would have more derived words than the program keeps: the name of each, and how many words
-        it would have."""
+        """The files that have the folder's bytes and would have more derived words than the program keeps: each name, with the number of words."""
         found = [(self.records[key], entry.derived) for key, entry in self.keyed if key in self.records and entry.derived > MAX_DERIVED]
         return [(record.name, count) for record, count in found
                 if record.folder is not None and record.folder == record.image and derived.has_many(record.name.encode())]
@@ -479,14 +480,14 @@ class Changes:
         return not self.changes and not self.gone
 
     def coming(self) -> Records:
-        """The records before the changes, with what is coming to each file."""
+        """The records before the changes, with the digest that is coming to each file."""
         found = self.seen()
-        # One that moved is known by its old place until it has its new name and words.
+        # A moved file keeps its old key until it has its new name and words.
         for key, old in self.moved.items():
             if key in found:
                 found[old] = found.pop(key)
         for change in self.changes:
-            # A new file that was not read yet is not read for this alone: where it comes in, the next run finds both sides alike.
+            # A new file that was not read yet is not read just for this: if it comes in, the next run finds both sides alike.
             if change.has_other_bytes and change.entry.digest is not None:
                 name = (change.was or change.name).decode()
                 before = self.records.get(change.key, Record(name, name, None, None))
@@ -497,18 +498,19 @@ class Changes:
         return found
 
     def seen(self) -> Records:
-        """The records, and those of files that are in the folder and not in the image. Such a file is none that moved, when there is room."""
+        """The records, and those of files that are in the folder and not in the image. Such a file does not count as moved when there is room for
+        it."""
         found = dict(self.records)
         for key, entry in self.keyed:
             if entry.found.problem:
-                # It may yet turn out to be one that moved.
+                # It may turn out to be a moved file.
                 continue
             name = entry.names(self.marker, False)[0].decode()
             found.setdefault(key, Record(name, name, None, None))
         return found
 
     def done(self, change: Change, name: bytes) -> None:
-        """A change was made, and the file has this name now."""
+        """Notes that a change was made, and that the file has this name now."""
         before, read = self.records.get(change.key), change.entry.digest if change.has_other_bytes else None
         digest = None if read is None else read.hex()
         if before is not None:
@@ -519,37 +521,37 @@ class Changes:
                 self.records[change.key] = Record(name.decode(), made, digest, digest)
         elif digest is not None:
             self.records[change.key] = Record(name.decode(), name.decode(), digest, digest)
-        # Else only words changed of a file in conflict, of which nothing is known.
+        # Otherwise only words changed, of a file in conflict of which nothing is known.
 
     def removed(self, name: bytes) -> None:
         if key := self.gone_keys[name]:
             self.records.pop(key, None)
 
     def path_of_gone(self, name: bytes) -> str:
-        """The path that a file had which is gone, if it is known."""
+        """The path of a file that is gone, if it is known."""
         path = gone_path(self.gone_keys[name])
         return os.path.join(self.top, path) if path else ""
 
     def heads(self) -> list[bytes]:
-        """The heads that have to be declared, in the order of their importance."""
+        """The heads that must be declared, the most important first."""
         wanted = dict.fromkeys(stem_of(word) for change in self.changes for word in change.gains)
         return [head for head in [MARKER, *wanted] if head + b":" not in self.dump.declared] if self.changes else []
 
 
 def parts_of(content: bytes) -> set[bytes]:
-    """What of some bytes can be found again after an edit: what stands between blanks."""
+    """The parts of a content that can be found again after an edit: the pieces between blanks."""
     return set(content.split())
 
 
 def shared(some: Set[bytes] | None, others: Set[bytes] | None) -> float:
-    """How much two contents have in common. Of unknown ones this is less than of those that are alike, and more than of others."""
+    """How much two contents have in common. If one is unknown, the result is less than for similar contents, and more than for different ones."""
     if some is None or others is None:
         return SHARED * UNKNOWN_PART
     return SHARED * len(some & others) / len(some | others) if some and others else 0.0
 
 
 def content_of(entry: Entry) -> bytes:
-    """The bytes of a file of the folder, or none where it can't be read."""
+    """The bytes of a file of the folder, or none if it can't be read."""
     try:
         return walk.content(entry.found, entry.found.size or 0)
     except OSError:
@@ -557,7 +559,7 @@ def content_of(entry: Entry) -> bytes:
 
 
 def digest_of(entry: Entry) -> bytes:
-    """The digest of a file's bytes as they are now, where they were not looked at."""
+    """The digest of a file's bytes, which are read now if they were not read before."""
     if entry.digest is not None:
         return entry.digest
     return entry.read_from(walk.content(entry.found, entry.found.size or 0))

@@ -1,4 +1,4 @@
-"""The files of a folder as an image is to have them: each with its names, its size and its words. No bytes of files are kept."""
+"""The files of a folder as an image should have them: each with its names, its size and its words. No bytes of files are kept."""
 import dataclasses
 import hashlib
 import os
@@ -10,14 +10,14 @@ from lisfs import derived
 from lisfs.folder import cache, mails, music, names, walk
 from lisfs.folder.report import counted
 
-# What the records of files are of.
+# The kinds of records.
 MAIL, MUSIC = "mail", "music"
 DAY = 86_400
 
 
 class MailRecord(NamedTuple):
-    """What a mail gives: the digest of its bytes, or None if they are too many, its Message-ID or None, its subject, its words, how many words
-    the program would derive of it, and when it was sent or None."""
+    """What is read from a mail: the digest of its bytes, or None if they are too many, its Message-ID or None, its subject, its words, how many words
+    the program would derive from it, and when it was sent or None."""
 
     digest: str | None
     message_id: str | None
@@ -28,7 +28,7 @@ class MailRecord(NamedTuple):
 
 
 class MusicRecord(NamedTuple):
-    """What a piece of music gives: the digest of its bytes, and its words, or None if its tags can't be read."""
+    """What is read from a piece of music: the digest of its bytes, and its words, or None if its tags can't be read."""
 
     digest: str
     words: list[str] | None
@@ -36,8 +36,8 @@ class MusicRecord(NamedTuple):
 
 @dataclasses.dataclass(slots=True, eq=False)
 class Entry:
-    """A file of a folder. `words` are those that its folders, its header or its tags give, the most important first; words of the heads in
-    `unread` may be missing. `digest` is that of its bytes, or None where they were not looked at. `ident` is what its name is made of."""
+    """A file of a folder. `words` come from its folders, its header or its tags, the most important first; words of the heads in `unread` may be
+    missing. `digest` is that of its bytes, or None if they were not read. `ident` is what its name is made from."""
 
     found: walk.Found
     subject: str = ""
@@ -45,18 +45,18 @@ class Entry:
     digest: bytes | None = None
     words: tuple[bytes, ...] = ()
     unread: tuple[bytes, ...] = ()
-    # How many words the program would derive of its bytes, where they were looked at and it derives some.
+    # How many words the program would derive from its bytes, if they were read and it derives some.
     derived: int = 0
-    # When it was sent, or else changed, in seconds since 1970; and whether it is older than what is wanted of the folder.
+    # When it was sent, or else changed, in seconds since 1970; and whether it is older than wanted.
     date: float = 0.0
     is_older: bool = False
-    # Its names, which are asked for several times, and what they are made of.
+    # Its names, which are needed several times, and what they are made from.
     _made: tuple[tuple[bytes, ...], tuple[bytes, ...]] = (), ()
 
     def read_from(self, content: bytes) -> bytes:
-        """Notes what its bytes give. Their digest."""
+        """Notes what is read from its bytes. Returns their digest."""
         digest = hashlib.sha256(content).digest()
-        # Of a mail the words were counted when its header was read.
+        # The words of a mail were counted when its header was read.
         if digest != self.digest:
             name = b"x.eml" if self.is_mail else os.fsencode(self.found.parts[-1])
             self.digest, self.derived = digest, len(derived.derived_words(name, content)) if derived.has_many(name) else 0
@@ -68,7 +68,7 @@ class Entry:
         return self.found.base is not None
 
     def names(self, marker: bytes, is_lean: bool) -> list[bytes]:
-        """The names that it may have in an image, the first of them where that is free. Of a lean one the program derives fewer words."""
+        """The names that it may have in an image; the first is used if it is free. For a lean name the program derives fewer words."""
         full = self._full_names(marker)
         if not derived.has_many(full[0]):
             return full
@@ -88,15 +88,15 @@ class Entry:
 
 
 def newest_first(entry: Entry) -> tuple[float, str]:
-    """By this files are in the order in which they come in."""
+    """The sort key of the order in which files come in."""
     return -entry.date, entry.found.key
 
 
 class Entries:
-    """Looks at the files of a folder. `largest` is the most bytes of a file; `folder_words` gives the words for the names of folders, and
-    `leave` is told what is no file to take, and `look` is called for each file. What `without` and `passed` say is passed over. `tagless`
-    counts the pieces of music whose tags could not be read, and `is_deaf` says that there is nothing to read tags. What mails and music gave
-    is asked of `remembered` first."""
+    """Looks at the files of a folder. `largest` is the most bytes of a file; `folder_words` returns the words for the names of folders, `leave` is
+    called for what can't be taken, and `look` for each file. Files that `without` and `passed` describe are skipped. `tagless` counts the pieces of
+    music whose tags could not be read, and `is_deaf` says that the reader of tags is missing. What mails and music gave is first looked up in
+    `remembered`."""
 
     def __init__(self, top: str, largest: int, folder_words: Callable[[walk.Parts], list[bytes]], leave: walk.Leave, look: Callable[[], None],
                  without: Sequence[str] = (), passed: Sequence[os.stat_result] = (), remembered: cache.Cache | None = None) -> None:
@@ -105,7 +105,7 @@ class Entries:
         self.tagless, self.is_deaf = 0, False
         self._reader: music.Mutagen | None = None
         self._words: dict[bytes, bytes] = {}
-        # A later Date than tomorrow is not believed, since such a mail would always be the newest.
+        # A Date later than tomorrow is ignored, since such a mail would always be the newest.
         self.latest = time.time() + DAY
         self._remembered: cache.Cache = remembered or cache.Nothing()
 
@@ -128,13 +128,13 @@ class Entries:
         return entry
 
     def _mail(self, entry: Entry) -> list[bytes]:
-        """The words of a mail, also of one that is too large, since it keeps its name."""
+        """The words of a mail, even of one that is too large, since it keeps its name."""
         found = entry.found
         record = self._remembered.record(found, MAIL, MailRecord)
         if record is None or record.digest is None and not found.problem:
             record = self._read_mail(found)
         if record is None:
-            # It may be here all the same, under a name that is not known.
+            # It may still exist, under a name that is not known.
             self.walk.is_blind = self.walk.is_blind or entry.is_mail
             return []
         entry.derived = record.derived
@@ -149,7 +149,7 @@ class Entries:
         return [word.encode() for word in record.words]
 
     def _read_mail(self, found: walk.Found) -> MailRecord | None:
-        """What a mail gives, or None if it can't be read."""
+        """What is read from a mail, or None if it can't be read."""
         try:
             content, times = cache.read(found, mails.HEADER if found.problem else self.largest)
         except OSError as error:
@@ -178,7 +178,7 @@ class Entries:
         return [word.encode() for word in record.words or ()]
 
     def _read_music(self, reader: music.Mutagen, found: walk.Found) -> MusicRecord | None:
-        """What a piece of music gives, or None if it can't be read."""
+        """What is read from a piece of music, or None if it can't be read."""
         rules = f"{MUSIC} {reader.version_string}"
         if record := self._remembered.record(found, rules, MusicRecord):
             return record
@@ -192,21 +192,21 @@ class Entries:
         return record
 
     def choose(self, since: float | None, newest: int | None) -> None:
-        """Notes which files are older than those that are wanted: those from a time on, and so many at most."""
+        """Notes which files are older than wanted: those before a time, and those beyond a number."""
         taken = sorted((entry for entry in self.all if not entry.found.problem), key=newest_first)
         for place, entry in enumerate(taken):
             entry.is_older = newest is not None and place >= newest or since is not None and entry.date < since
 
     def tell_tags(self, tell: Callable[[str], None]) -> None:
-        """What is amiss with the tags of music, in a line."""
+        """Reports in a line what is wrong with the tags of music."""
         if self.tagless:
             pieces = counted(self.tagless, "piece")
             tell(f"{pieces} of music without the words of tags: python3-mutagen is not there" if self.is_deaf else
                  f"{pieces} of music whose tags can't be read")
 
     def _tell_apart(self) -> None:
-        """What the name of each is made of. Of several mails with one Message-ID all but one are known by their bytes too, and those with
-        the same bytes by their number; so this doesn't depend on where they were found first."""
+        """Sets what each name is made from. Of several mails with one Message-ID all but one are identified by their bytes too, and those with the
+        same bytes by their number; so this doesn't depend on which were found first."""
         same: dict[tuple[bytes, ...], list[Entry]] = {}
         for entry in self.all:
             if entry.ident:

@@ -1,4 +1,4 @@
-"""Texts as words and names of an image: ASCII, and in the forms that the program takes."""
+"""Turns texts into words and names of an image: ASCII, and well formed for the program."""
 from __future__ import annotations
 
 import os
@@ -8,7 +8,7 @@ import unicodedata
 from lisfs.constants import MAX_WORD
 from lisfs.words import mapped
 
-# Letters that are written with others where they can't be written, and those that are no letter with a mark.
+# Letters that are written as other letters, and letters that are not a base letter with a mark.
 LETTERS = str.maketrans({
     "ä": "ae", "ö": "oe", "ü": "ue", "Ä": "Ae", "Ö": "Oe", "Ü": "Ue", "ß": "ss", "ẞ": "SS", "æ": "ae", "Æ": "Ae", "œ": "oe", "Œ": "Oe",
     "ø": "o", "Ø": "O", "ł": "l", "Ł": "L", "đ": "d", "Đ": "D", "ð": "d", "Ð": "D", "þ": "th", "Þ": "Th", "ı": "i", "ħ": "h", "Ħ": "H",
@@ -18,7 +18,7 @@ RUN = re.compile(r"[A-Za-z0-9]+")
 
 
 class WithoutMarks(dict[int, int | str | None]):
-    """What becomes of a letter when its marks stand apart: of a mark nothing, and of a letter that is no ASCII a blank."""
+    """The mapping of a letter whose marks are separate: a mark is dropped, and a letter that is not ASCII becomes a blank."""
 
     def __missing__(self, code: int) -> int | str | None:
         found = self[code] = None if unicodedata.combining(chr(code)) else code if code < 128 else " "
@@ -29,10 +29,10 @@ WITHOUT_MARKS = WithoutMarks()
 
 
 def folded(text: str) -> str:
-    """A text in ASCII, with its case: umlauts as two letters, other letters without their marks. What can't be written so is a blank."""
+    """A text in ASCII, with its case: umlauts as two letters, other letters without their marks. What can't be written so becomes a blank."""
     if text.isascii():
         return text.replace("'", "")
-    # A mark that stands behind its letter is joined to it first, so that it is an umlaut too.
+    # A mark that follows its letter is first joined to it, so that it is an umlaut too.
     text = unicodedata.normalize("NFC", text).translate(LETTERS)
     return unicodedata.normalize("NFKD", text).translate(WITHOUT_MARKS)
 
@@ -43,7 +43,7 @@ def runs(text: str) -> list[str]:
 
 
 def joined(text: str, longest: int) -> bytes:
-    """The runs of a text with `-` between, so many whole ones as there is room for, and of the first one at least a part."""
+    """The runs of a text joined by `-`: as many whole runs as fit, and at least a part of the first one."""
     found = ""
     for run in runs(text):
         more = f"{found}-{run}" if found else run[:longest]
@@ -54,18 +54,18 @@ def joined(text: str, longest: int) -> bytes:
 
 
 def valued(head: bytes, text: str) -> list[bytes]:
-    """The word of this head with a text as its value, or none."""
+    """The word of this head with a text as its value, or None."""
     value = joined(text, MAX_WORD - len(head) - 1)
     return [b"%s:%s" % (head, value)] if value else []
 
 
 def plain(name: str) -> bytes:
-    """The plain bytes of a name of the system, of any length. Letters that are no ASCII are folded; what can't be written so is a `_`."""
+    """The plain bytes of a file name of the system, of any length. Letters that are not ASCII are folded; what can't be written so becomes `_`."""
     text = unicodedata.normalize("NFC", os.fsencode(name).decode(errors="surrogateescape"))
     text = "".join(letter if letter.isascii() else folded(letter).strip() or "_" for letter in text)
     return mapped(text.encode())
 
 
 def folder_value(name: str) -> bytes:
-    """What stands for a folder in a word, of any length; nothing where its name has only full stops."""
+    """The value that represents a folder in a word, of any length; empty if its name has only full stops."""
     return plain(name).lstrip(b".")

@@ -1,12 +1,12 @@
-"""Words out of the header of a mail, with encoded words decoded.
+"""Words from the header of a mail, with encoded words decoded.
 
 - `date:2024-06` of its Date;
 - `list:` and what List-Id has in `< >`;
 - `who:` and the name, or else the address, of each that From, To and Cc name;
-- `about:` and each word of its Subject that has three letters or digits and a letter, and says something.
+- `about:` and each word of its Subject that has three letters or digits and a letter, and carries meaning.
 
-A mail is anybody's, so what it costs is bounded: of a header so many bytes, lines and letters of a field are looked at, each a few times, and
-no more than so many go to Python's own `email` package, which takes time with the square of what it is given.
+Anybody can send a mail, so its cost is bounded: only a bounded number of bytes, lines and letters of a field is read, each a few times, and only a
+bounded number goes to Python's own `email` package, which takes quadratic time.
 """
 from __future__ import annotations
 
@@ -21,17 +21,17 @@ from lisfs.folder import addresses
 from lisfs.folder.forms import folded, runs, valued
 
 HEADS = (b"date", b"list", b"who", b"about")
-# So many bytes of a mail are looked at for its header, so many lines of that, so many letters of one field, and of some of the fields fewer.
+# The most bytes of a mail that are searched for its header, the most lines of the header, the most letters of a field, and fewer for some fields.
 HEADER, LINES, FIELD = 262_144, 4_096, 16_384
 SUBJECT, SHORT = 2_048, 512
 END = re.compile(rb"\r?\n\r?\n")
 LINE = re.compile(r"[^\r\n]*(?:\r\n?|\n|\Z)")
-# What a line of a header begins with: the name of a field, or what continues the field before.
+# How a line of a header begins: with the name of a field, or as a continuation of the field before.
 BEGIN = re.compile(r"([!-9;-~]*):|[\t ]|From ")
 FIELDS = frozenset(("date", "list-id", "from", "to", "cc", "subject", "message-id"))
-# So many people are kept with their words, since the same ones write again and again.
+# How many people are kept with their words, since the same people write again and again.
 KEPT = 2_048
-# What is in front of an answer or what is handed on, and words of English and German that are in every subject.
+# The prefixes of replies and forwarded mails, and English and German words that are in every subject.
 SAYS_NOTHING = frozenset("""
     re fwd fw aw wg antw sv vs tr rv
     the and for with from your you our are was were has have had not this that these those but all can could will would about into its
@@ -52,7 +52,7 @@ class Mail:
         header = content[:HEADER]
         if end := END.search(header):
             header = header[:end.end()]
-        # Bytes that are no ASCII should be UTF-8; where they are not, they mostly are Latin-1.
+        # Bytes that are not ASCII should be UTF-8; otherwise they are mostly Latin-1.
         try:
             text = header.decode()
         except UnicodeDecodeError:
@@ -63,7 +63,7 @@ class Mail:
         self.subject = subject_of(self._raw("Subject"))
 
     def _raw(self, name: str) -> str:
-        """A field's text as it stands, or none."""
+        """A field's raw text, or an empty text."""
         return self._fields.get(name.lower(), "")
 
     def words(self) -> list[bytes]:
@@ -103,7 +103,7 @@ class Mail:
 
 
 def fields_of(header: str) -> dict[str, str]:
-    """The first field of each name in `FIELDS`, as it stands. A line that is none of a header ends it, as for the `email` package."""
+    """The first field of each name in `FIELDS`, as raw text. A line that is not part of a header ends the header, as for the `email` package."""
     found: dict[str, list[str]] = {}
     lines: list[str] | None = None
     for line in itertools.islice(LINE.finditer(header), LINES):
@@ -121,7 +121,7 @@ def fields_of(header: str) -> dict[str, str]:
 
 
 def subject_of(raw: str) -> str:
-    """A Subject as it is meant. A header may be anything, and the package has no list of what it raises then."""
+    """A decoded Subject. A header may contain anything, and the package has no list of the errors that it raises then."""
     raw = re.sub(r"[\r\n]+", "", raw)
     if len(raw) > SUBJECT:
         raw = raw[:SUBJECT].rpartition(" ")[0] or raw[:SUBJECT]
@@ -134,14 +134,14 @@ def subject_of(raw: str) -> str:
 
 
 def newer_header(raw: str) -> object:
-    """A Subject as the package's newer classes read it."""
-    # The package takes a while to load, and many folders have no mails.
+    """A Subject as the package's newer classes decode it."""
+    # The package is slow to load, and many folders have no mails.
     import email.policy
     return email.policy.default.header_factory("Subject", raw)
 
 
 def older_header(raw: str) -> object:
-    """The same, as its older ones read it."""
+    """The same, as its older classes decode it."""
     import email.header
     return email.header.make_header(email.header.decode_header(raw))
 
@@ -153,7 +153,7 @@ def people(raw: str) -> list[bytes]:
 
 @functools.lru_cache(KEPT)
 def of_person(shown: str, address: str) -> list[bytes]:
-    """The word of somebody's name, which is turned where it says `LAST, FIRST`; or else that of the address."""
+    """The word of a person's name, which is reordered if it is `LAST, FIRST`; or else that of the address."""
     if ADDRESS.fullmatch(shown.strip()):
         shown, address = "", address if "@" in address else shown.strip()
     last, comma, first = shown.partition(",")
@@ -162,6 +162,6 @@ def of_person(shown: str, address: str) -> list[bytes]:
 
 
 def of_address(head: bytes, address: str) -> list[bytes]:
-    """The word of an address, or of what looks like one."""
+    """The word of an address, or of a text that looks like one."""
     value = NOT_IN_A_WORD.sub("_", address.strip().lower()).strip("_")[:MAX_WORD - len(head) - 1]
     return [head + b":" + value.encode()] if value.strip("_@") else []

@@ -1,4 +1,4 @@
-"""Words out of the tags of a piece of music, which `mutagen` reads (Debian's `python3-mutagen`): `artist:`, `album:`, `genre:`, `year:`."""
+"""Words from the tags of a piece of music, which `mutagen` reads (Debian's `python3-mutagen`): `artist:`, `album:`, `genre:`, `year:`."""
 from __future__ import annotations
 
 import importlib
@@ -14,7 +14,7 @@ from lisfs.folder.forms import valued
 HEADS = (b"artist", b"album", b"genre", b"year")
 SUFFIXES = {".mp3", ".ogg", ".oga", ".opus", ".spx", ".flac", ".m4a", ".m4b", ".mp4", ".aac", ".wma", ".wav", ".aif", ".aiff", ".ape",
             ".wv", ".mpc", ".tta", ".dsf"}
-# The names of a tag in the kinds of files.
+# The names of a tag in the file formats.
 TAGS = {
     b"artist": ("artist", "TPE1", "\xa9ART", "Author", "Artist"),
     b"album": ("album", "TALB", "\xa9alb", "WM/AlbumTitle", "Album"),
@@ -22,7 +22,7 @@ TAGS = {
     b"year": ("date", "year", "TDRC", "TYER", "\xa9day", "WM/Year", "Year", "Date"),
 }
 YEAR = re.compile(r"(?<![0-9])[0-9]{4}(?![0-9])")
-# Where Debian's packages lie, which another Python that is first on the path doesn't see.
+# Where Debian's packages are, which another Python that is first on the path doesn't search.
 DEBIAN = "/usr/lib/python3/dist-packages"
 
 
@@ -31,7 +31,7 @@ class Tags(Protocol):
 
 
 class Piece(Protocol):
-    """A piece of music that was read, and its tags, if it has some."""
+    """A piece of music that was read, and its tags, if any."""
 
     tags: Tags | None
 
@@ -49,7 +49,7 @@ def is_music(path: str) -> bool:
 
 
 def reader() -> Mutagen | None:
-    """The module, or None where it isn't there."""
+    """The module, or None if it is missing."""
     try:
         return cast(Mutagen, importlib.import_module("mutagen"))
     except ImportError:
@@ -64,15 +64,15 @@ def reader() -> Mutagen | None:
 
 
 def words(mutagen: Mutagen, path: str, content: bytes) -> list[bytes] | None:
-    """The words of a piece's tags, the most important first. A file that is no music, or a broken one, has none: then it is None."""
+    """The words of a piece's tags, the most important first. None if the file is no music, or broken."""
     file = io.BytesIO(content)
-    # The package looks at the ending too.
+    # The package looks at the suffix too.
     file.name = path
     try:
         piece = mutagen.File(file)
         tags = None if piece is None else piece.tags
     except Exception:
-        # The package raises errors of its own, and at some broken files others.
+        # The package raises its own errors, and others for some broken files.
         return None
     if piece is None:
         return None
@@ -88,7 +88,7 @@ def words(mutagen: Mutagen, path: str, content: bytes) -> list[bytes] | None:
 
 
 def texts(tags: Tags | None, names: Sequence[str]) -> list[str]:
-    """The texts of the first of these tags that is there."""
+    """The texts of the first of these tags that exists."""
     if tags is None:
         return []
     for name in names:

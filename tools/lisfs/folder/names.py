@@ -1,8 +1,8 @@
 """The names that files have in an image: the same at every run, whatever other files are there and in whatever order they are found.
 
-A file is named after its path below the folder, with `+` between two parts, where these bytes tell the path. Else the name is what can be
-shown of the path, its end first, and a digest of all of it: `PATH-DIGEST.SUFFIX`. A mail of a maildir is named `SUBJECT-DIGEST.eml`, the
-digest being that of its Message-ID, or of its path where it has none.
+A file is named after its path below the folder, with `+` between two parts, if the path can be told from these bytes. Otherwise the name is as much
+of the path as fits, from its end, and a digest of the whole path: `PATH-DIGEST.SUFFIX`. A mail of a maildir is named `SUBJECT-DIGEST.eml`, with the
+digest of its Message-ID, or of its path if it has none.
 """
 import hashlib
 import os
@@ -11,9 +11,9 @@ import re
 from lisfs.constants import MAX_WORD
 from lisfs.folder.forms import joined, plain
 
-# How many digits of a digest a name has. Two of some thousand files have equal ones once in a hundred thousand folders.
+# How many digits of a digest a name has. Among a few thousand files two are equal once in a hundred thousand folders.
 DIGITS = 10
-# Where a path has other bytes, or a name would end as one with a digest does, its bytes alone don't tell it.
+# If a path has other bytes, or if its name would end as one with a digest does, the bytes alone don't identify it.
 CLEAR = re.compile(rb"[A-Za-z0-9_.@-]+(?:/[A-Za-z0-9_.@-]+)*")
 DIGESTED = re.compile(rb"-[0-9a-f]{10}(?:\.[A-Za-z0-9_@-]{1,12})?$")
 SUFFIX = re.compile(rb"(?<=[^.+])\.[A-Za-z0-9_@-]{1,12}$")
@@ -21,7 +21,7 @@ EML, LEAN = b".eml", b"_"
 
 
 def digest_of(*parts: bytes) -> bytes:
-    """Some digits that stand for these texts."""
+    """Some digits that represent these texts."""
     return hashlib.sha256(b"\0".join(parts)).hexdigest()[:DIGITS].encode()
 
 
@@ -34,7 +34,7 @@ def of_path(key: str) -> bytes:
 
 
 def digested(key: str, digest: bytes) -> bytes:
-    """A name that shows the end of a path, and has a digest."""
+    """A name that has the end of a path, and a digest."""
     name = b"+".join(plain(part) for part in key.split(os.sep))
     found = SUFFIX.search(name)
     suffix = found[0] if found else b""
@@ -43,11 +43,11 @@ def digested(key: str, digest: bytes) -> bytes:
 
 
 def of_mail(subject: str, digest: bytes) -> bytes:
-    """The name of a mail by its subject, and by what it is known by."""
+    """The name of a mail from its subject and its identity."""
     return (joined(subject, MAX_WORD - len(b"-" + digest + EML)) or b"mail") + b"-" + digest + EML
 
 
 def lean(name: bytes, is_mail: bool) -> bytes:
-    """The name of a file of which the program derives only words of its name and its size: that of a mail without its suffix, and any other
+    """The name of a file from which the program derives only words of its name and its size: for a mail without its suffix, and for any other file
     with another suffix, so that `ext:c_` finds the sources of C."""
     return name.removesuffix(EML) if is_mail else name[-(MAX_WORD - len(LEAN)):] + LEAN

@@ -1,4 +1,4 @@
-"""Words of the command line of `tools/sync` and `tools/import` that are numbers or dates."""
+"""Numbers and dates on the command line of `tools/sync` and `tools/import`."""
 from __future__ import annotations
 
 import argparse
@@ -29,7 +29,7 @@ def at_least_one(text: str) -> int:
 
 
 def part_or_number(text: str) -> Fraction:
-    """A number from 0 on, or a part of a whole, which is less than 1."""
+    """A number from 0 on, or a fraction less than 1."""
     number = Fraction(text) if re.fullmatch(r"[0-9]{1,9}|0?\.[0-9]{1,9}|[0-9]{1,9}/0*[1-9][0-9]{0,8}", text) else None
     if number is None or "/" in text and number >= 1:
         raise argparse.ArgumentTypeError(f"{text!r} is neither a number nor a part such as 1/10 or 0.1")

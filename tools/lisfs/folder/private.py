@@ -12,9 +12,9 @@ from lisfs.constants import BLOCK_LEN, MAX_IMAGE_BLOCKS
 from lisfs.dumps import NotADump
 from lisfs.opening import joined
 
-# So often the copy of a served image is made again, if another client has changed the image meanwhile.
+# How often the copy of a served image is made again, if another client has changed the image meanwhile.
 TRIES = 8
-# So many bytes are copied at a time. Those that are all zero are left out, so that the copy takes no more room than the image.
+# How many bytes are copied at a time. Pieces of zeros are left out, so that the copy takes no more room than the image.
 PIECE = 65_536
 
 
@@ -34,10 +34,10 @@ def private_copy(image: str) -> Iterator[str]:
 
 
 def copy_image(image: str, path: str) -> None:
-    """Copies an image while nobody else can change it. Of a longer device it copies as much as an image has at most."""
+    """Copies an image while nobody else can change it. Of a longer device it copies the most bytes that an image can have."""
     kind = os.stat(image).st_mode
     if not (stat.S_ISREG(kind) or stat.S_ISBLK(kind) or stat.S_ISDIR(kind)):
-        # A pipe would be waited for. Of a folder the system says what is wrong.
+        # Opening a pipe would block. For a folder the system says what is wrong.
         raise OSError(errno.EINVAL, "not a file or a block device", image)
     session = joined("sync", image)
     if session is None:

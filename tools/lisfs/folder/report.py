@@ -1,4 +1,4 @@
-"""What a tool says: lines, counts by their cause, and on a terminal one line of progress that is written again and again."""
+"""What a tool prints: lines, counts by cause, and on a terminal one line of progress that is rewritten."""
 from __future__ import annotations
 
 import collections
@@ -16,7 +16,7 @@ PAUSE = 0.1
 
 
 class Telling:
-    """Lines of a tool, on `stream`. Those of one file are written where `is_verbose` says so. `not_taken` counts files by the cause."""
+    """The lines of a tool, on `stream`. Those about one file are written if `is_verbose`. `not_taken` counts files by cause."""
 
     def __init__(self, tool: str, stream: TextIO, is_verbose: bool) -> None:
         self.tool, self.stream, self.is_verbose = tool, stream, is_verbose
@@ -32,7 +32,7 @@ class Telling:
             self.tell(line)
 
     def leave(self, path: str, why: str) -> None:
-        """A file that is not taken."""
+        """Counts a file that is not taken."""
         self.not_taken[cause_of(why)] += 1
         self.tell_file(f"not taken: {harmless(path)}: {why}")
 
@@ -51,7 +51,7 @@ class Telling:
 
 
 def cause_of(why: str) -> str:
-    """A cause without what is one file's alone."""
+    """A cause without the part about one file."""
     if "; a file has" in why:
         return "too large"
     if why == os.strerror(errno.ENOENT):
@@ -60,7 +60,7 @@ def cause_of(why: str) -> str:
 
 
 def left_out(tell: Callable[[str], None], words: int, files: int, why: str) -> None:
-    """Tells how many words of how many files were left out, where some were."""
+    """Says how many words of how many files were left out, if any."""
     if words:
         tell(f"{counted(words, 'word')} of {counted(files, 'file')} left out: {why}")
 

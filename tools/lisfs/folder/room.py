@@ -1,8 +1,8 @@
-"""How much room an image has for the files of a folder, and what a person can do if that is not enough.
+"""How much room an image has for the files of a folder, and what to do if that is not enough.
 
-Files come in one after the other, the newest first, and each takes of the room before it is sent. So what comes in does not depend on which
-replies were there by then. Some of the words that an image may know are kept free for the person. The program is asked which words it knows
-only if there may be too many.
+Files come in one after the other, the newest first, and each takes its room before it is sent. So what comes in does not depend on which replies have
+come by then. Some of the words that an image may know are kept free for the person. The program is asked which words it knows only if there may be
+too many.
 """
 from collections.abc import Iterable, Mapping
 from fractions import Fraction
@@ -18,12 +18,12 @@ RESERVE = Fraction(1, 20)
 
 
 def kept_free(wish: Fraction, words: int) -> int:
-    """How many words of an image that may know so many are kept free: a part of them, or a number."""
+    """How many of this number of words are kept free: a fraction of them, or a number."""
     return int(wish * words) if wish < 1 else int(wish)
 
 
 class Short(NamedTuple):
-    """Which kind of room there was not enough of."""
+    """Which kinds of room were short."""
 
     files: bool
     words: bool
@@ -36,12 +36,12 @@ class Room:
     def __init__(self, limits: Limits, reserve: int) -> None:
         self.limits, self.reserve = limits, reserve
         self.files = 0
-        # How many more words may become known, and those that are known if there may be too many.
+        # How many more words may become known, and the known words if there may be too many.
         self._words = 0
         self._known: set[bytes] | None = None
 
     def measure(self, counts: Mapping[str, int], most: int) -> bool:
-        """Takes what `stat` shows. Whether the words that are known are needed, since so many more may be wanted."""
+        """Takes what `stat` shows. Returns whether the known words are needed, since this many more may be wanted."""
         self.files = self.limits.files - counts["files"]
         self._words = self.limits.words - self.reserve - counts["known"]
         self._known = None
@@ -52,14 +52,14 @@ class Room:
         self._known = set(known)
 
     def words_of(self, name: bytes, content: bytes) -> list[bytes]:
-        """The words that the program derives of a file, with their heads, if they have to be counted."""
+        """The words that the program derives from a file, with their heads, if they must be counted."""
         if self._known is None:
             return []
         words = derived.derived_words(name, content)[:MAX_DERIVED]
         return words + [head for head in map(head_of, words) if head]
 
     def take(self, words: Iterable[bytes]) -> bool:
-        """Whether there is room for the words of a file, which are then known."""
+        """Whether there is room for the words of a file. If so, they count as known."""
         if self._known is None:
             return True
         new = set(words) - self._known
@@ -70,14 +70,13 @@ class Room:
         return True
 
     def force(self, word: bytes) -> None:
-        """The same of a word that becomes known in any case."""
+        """Counts a word as known that becomes known in any case."""
         if self._known is not None and word not in self._known:
             self._words -= 1
             self._known.add(word)
 
     def advice(self, short: Short, files: int, newest: int, can_be_lean: bool) -> list[str]:
-        """A line for each limit that was reached: `newest` files have all that they should, and the image has room for so many files of the
-        folder."""
+        """A line for each limit that was reached. The newest `newest` files are complete, and the image has room for `files` files of the folder."""
         found: list[str] = []
         if short.files:
             found.append(self._line(f"{self.limits.files:,} files", [keeps(files)], self.limits.files < MAX_FILES))

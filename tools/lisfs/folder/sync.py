@@ -93,25 +93,25 @@ from lisfs.showing import harmless, write_line
 from lisfs.words import PLAIN_FORM, PLAIN_RUN
 
 STOPS = (signal.SIGTERM, signal.SIGHUP)
-# What is counted, and how that is told.
+# What is counted, and the words of the report.
 COUNTED = {Done.NEW: "new", Done.CHANGED: "changed", Done.MOVED: "moved", Done.WORDS: "with other words", Done.GONE: "gone",
            Done.OLD: "removed as older"}
-# So many conflicts are named in any case.
+# How many conflicts are named in any case.
 NAMED = 10
 # The option that settles the conflict of one file. The path follows `=`, since the next word of the command line is the image or the folder.
 ONE_SIDE = re.compile(r"--(ours|theirs)=(.+)", re.S)
 
 
 class Failed(Exception):
-    """What is amiss, in one line."""
+    """What is wrong, in one line."""
 
 
 class Stopped(BaseException):
-    """A signal came by which this program is to end."""
+    """A signal came that ends this program."""
 
 
 def default_name(folder: str) -> bytes:
-    """The folder's name, and digits that stand for where it lies: two folders of one name have their own files each."""
+    """The folder's name, and digits that represent its path: two folders of one name have separate files."""
     path = os.path.realpath(folder)
     name = folder_value(os.path.basename(path))[:40] or b"root"
     return name + b"-" + hashlib.sha256(os.fsencode(path)).hexdigest()[:4].encode()
@@ -149,9 +149,9 @@ class Sync:
         # Why what was brought in could not be kept, and what earlier runs brought in, if it is known.
         self.unkept: str | None = None
         self.known: Records | None = None
-        # So many of each were made, and of all.
+        # How many files of each kind were done, and how many in all.
         self.counts, self.done = dict.fromkeys(COUNTED, 0), 0
-        # What is there so far, when it is told.
+        # The entries so far, for a report after an early end.
         self.entries: Entries | None = None
         self.plan: Changes | None = None
         self.carrying: Carrying | None = None
@@ -168,12 +168,12 @@ class Sync:
             self.telling.clear()
             program, dump = opening.opened("sync", self.path, session_word(), with_digests=True)
             with program:
-                # What another client changes from now on is not written over.
+                # What another client changes from now on is not overwritten.
                 program.guard()
                 self.carry(program, self.make_plan(entries, dump, program), room)
 
     def look(self) -> Room:
-        """Whether the image can be opened, before anything takes long, and what there is room for in it."""
+        """Checks that the image can be opened, before anything takes long, and finds what it has room for."""
         if what := missing():
             raise Failed(what)
         opening.tried("sync", self.path)
@@ -225,14 +225,14 @@ class Sync:
         if not plan.is_nothing():
             coming = self.remember(carrying, plan.coming())
         carrying.run()
-        # Where nothing is known and nothing was brought in, another one's memory stays.
+        # If nothing is known and nothing was brought in, the memory of another run stays.
         if plan.records or self.known is not None:
             is_other = self.remember(carrying, plan.seen()) != coming and coming is not None and coming not in before
             if is_other and coming is not None and not self.words.dry_run:
                 self.memory.forget(coming)
 
     def remember(self, carrying: Carrying, records: Records) -> bytes | None:
-        """Keeps what was brought in, and has the image name it by a word, which it returns. Where that can't be, the image names nothing."""
+        """Keeps what was brought in, and makes the image name it by a word, which it returns. If that is impossible, the image names nothing."""
         word = None
         try:
             if records:
@@ -261,7 +261,7 @@ class Sync:
             self.telling.progress(lambda: f"{self.done} of {total} changes")
 
     def report(self) -> None:
-        """The counts, as far as they are known."""
+        """Prints the counts, as far as they are known."""
         tell = self.telling.tell
         if self.plan is not None:
             self.report_plan(self.plan)
@@ -281,7 +281,7 @@ class Sync:
             tell("no room for the word that names what was brought in: the next run takes each difference for a conflict")
 
     def report_plan(self, plan: Changes) -> None:
-        """What was done, or would be, and what was left out."""
+        """Prints what was done, or would be, and what was left out."""
         tell, marker, same = self.telling.tell, self.marker.decode(), f"{plan.same} as they were"
         if parts := [f"{self.counts[what]} {name}" for what, name in COUNTED.items() if self.counts[what]]:
             tell(f"{marker}: {'would be ' if self.words.dry_run else ''}{', '.join(parts)}, {same}")
@@ -296,7 +296,7 @@ class Sync:
         self.report_cut(plan)
 
     def report_carrying(self, carrying: Carrying) -> None:
-        """What there was no room for."""
+        """Prints what there was no room for."""
         tell = self.telling.tell
         left_out(tell, carrying.too_many, carrying.too_many_files, f"a file has {MAX_DESCRIPTION} at most, with those that it has on its own")
         left_out(tell, carrying.without, carrying.without_files, "no room for more words")
@@ -304,7 +304,7 @@ class Sync:
             tell(f"{counted(carrying.lean, 'file')} named as by --lean: no room for the words that the program derives")
 
     def report_cut(self, plan: Changes) -> None:
-        """What the program derives no words of, since there are too many."""
+        """Prints how many words the program does not derive, since there are too many."""
         cut = plan.cut()
         for name, count in cut:
             self.telling.tell_file(f"cut: {name}: {MAX_DERIVED} of at least {count:,} words that it has on its own")
@@ -313,7 +313,7 @@ class Sync:
                               f"has at most {MAX_DERIVED} on its own, so a search by from:, to:, subject:, includes: or defines: can miss it")
 
     def report_image(self, plan: Changes) -> None:
-        """What was changed in the image, and stays."""
+        """Prints what was changed in the image, and stays."""
         tell = self.telling.tell
         for was, name in plan.renamed:
             self.telling.tell_file(f"renamed in the image: {name}: it was {was}")
@@ -349,7 +349,7 @@ class Sync:
 
 
 def own_files(image: str) -> list[os.stat_result]:
-    """The image, and the socket beside it if it is served: neither is one of the folder's files."""
+    """The image, and its socket if it is served: neither is one of the folder's files."""
     found = [os.stat(image)]
     with contextlib.suppress(OSError):
         found.append(os.lstat(socket_of(image)))
@@ -357,7 +357,7 @@ def own_files(image: str) -> list[os.stat_result]:
 
 
 def within(folder: str, path: str) -> str:
-    """The path of a file in a folder, which may be said with that of the folder before it, as a conflict is shown."""
+    """The path of a file in a folder. It may begin with the path of the folder, as a conflict is shown."""
     path = os.path.normpath(path)
     if not os.path.isabs(path) and os.path.lexists(os.path.join(folder, path)):
         return path
@@ -396,7 +396,7 @@ def apart(given: Sequence[str]) -> tuple[list[str], list[tuple[str, Side]]]:
 
 
 def options() -> Options:
-    """What the command line says. Ends where that is wrong use."""
+    """The parsed command line. Exits after wrong use."""
     parser = argparse.ArgumentParser(usage=__doc__.split("usage: ", 1)[1])
     parser.add_argument("--as", dest="name")
     parser.add_argument("--without", action="append", default=[])
@@ -436,7 +436,7 @@ def main() -> int:
         write_line(sys.stderr, f"sync: {fault}")
         return 2
     for number in STOPS:
-        # What is ignored, as by `nohup`, stays so.
+        # A signal that is ignored, as by `nohup`, stays ignored.
         if signal.getsignal(number) == signal.SIG_DFL:
             signal.signal(number, stop)
     telling = Telling("sync", sys.stdout, words.verbose or words.dry_run)

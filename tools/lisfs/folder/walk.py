@@ -1,10 +1,10 @@
 """The files of a folder or a maildir.
 
-A folder with `cur` and `new` in it is a maildir, and so is one below with these and `tmp`. Its mails are those of the two, and those of its
+A folder with `cur` and `new` in it is a maildir, and so is one below with these and `tmp`. Its mails are those in these two folders, and those in its
 folders `.NAME.NAME`, whose names are decoded as mail programs write them.
 
-No symbolic link below the folder is followed: each part of a path is opened in the folder before it, so that this holds too where somebody
-puts a link in the place of a folder meanwhile.
+No symbolic link below the folder is followed: each part of a path is opened in the folder before it, so that this holds even if somebody replaces a
+folder by a link meanwhile.
 """
 import base64
 import contextlib
@@ -19,28 +19,28 @@ from typing import BinaryIO, NamedTuple, TypeAlias
 
 MARK = re.compile(r"&([A-Za-z0-9+,]*)-")
 NO_FILE, NO_PART = "no plain file", "no part of the maildir"
-# The folders of a folder of mails.
+# The subfolders of a maildir.
 BOX = ("cur", "new", "tmp")
-# A folder on the way is only gone through. Where the system has no `O_PATH` it has to be readable.
+# Opens a folder on the way, which is only traversed. If the system has no `O_PATH`, the folder must be readable.
 THROUGH = getattr(os, "O_PATH", os.O_RDONLY) | os.O_DIRECTORY | os.O_CLOEXEC
 READ = os.O_RDONLY | os.O_NOFOLLOW | os.O_CLOEXEC
 
 
-# The names that lead to a file from a folder.
+# The names that lead from a folder to a file.
 Parts: TypeAlias = tuple[str, ...]
-# What a name is, or why that can't be told; and the names in a folder, each with what it is.
+# What a name is, or why that can't be found out; and the names in a folder, each with what it is.
 Kind: TypeAlias = os.stat_result | OSError
 Kinds: TypeAlias = dict[str, Kind]
-# Is told the path of what is not taken, and why.
+# Called with the path of what is not taken, and why.
 Leave: TypeAlias = Callable[[str, str], None]
 
 
 @dataclasses.dataclass(slots=True, eq=False)
 class Found:
-    """A file. `parts` are the names that lead to it from the folder `top`, `folders` are the names of those that it lies in below, and `key`
-    is what it is known by at every run: its path below the top, of a mail without what changes when it is looked at. Of a mail in a maildir
-    `base` is its name without flags, and else None. `kind` is what the system says of it, if it is a file that can be taken, and `size` its
-    size now, or None where `problem` says why it can't be taken."""
+    """A file. `parts` are the names that lead to it from the folder `top`, `folders` are the names of the folders below that contain it, and `key`
+    identifies it at every run: its path below the top, and for a mail without what changes when it is read. For a mail in a maildir `base` is its
+    name without flags, and else None. `kind` is its stat result, if it is a file that can be taken, and `size` its size now, or None if `problem`
+    says why it can't be taken."""
 
     top: str
     parts: Parts
@@ -57,7 +57,7 @@ class Found:
 
 
 class Waiting(NamedTuple):
-    """A folder that is still to be walked through, and what is in it, if that is known."""
+    """A folder that is still to be walked, and what is in it, if that is known."""
 
     parts: Parts
     folders: Parts
@@ -65,14 +65,14 @@ class Waiting(NamedTuple):
 
 
 class Walk:
-    """Walks through a folder. What is no file to take is told by `leave(path, why)`. What has a name as one of `without`, patterns of a
-    shell, is passed over, and so are the files that `passed` describes. `is_blind` says whether there may be files that were not seen."""
+    """Walks a folder. For what can't be taken it calls `leave(path, why)`. Names that match `without`, shell patterns, are skipped, and so are the
+    files that `passed` describes. `is_blind` says whether there may be files that were not seen."""
 
     def __init__(self, top: str, leave: Leave, without: Sequence[str] = (), passed: Sequence[os.stat_result] = ()) -> None:
         self.top, self.leave, self.without, self.passed, self.is_blind = top, leave, without, passed, False
 
     def files(self) -> Iterator[Found]:
-        """Each `Found`, in an order that the names alone give."""
+        """Each `Found`, in an order that depends only on the names."""
         left = [Waiting((), (), None)]
         while left:
             parts, folders, known = left.pop()
@@ -87,7 +87,7 @@ class Walk:
             left += reversed(others)
 
     def _kinds(self, parts: Parts) -> Kinds:
-        """The names in a folder, each with what it is. None are there where it can't be read, which is told."""
+        """The names in a folder, each with what it is. If the folder can't be read, that is reported, and there are none."""
         try:
             return names_in(self.top, parts)
         except OSError as error:
@@ -96,11 +96,11 @@ class Walk:
             return Unread()
 
     def _wanted(self, kinds: Kinds) -> list[tuple[str, Kind]]:
-        """The names that are not passed over, in their order, each with what it is."""
+        """The names that are not skipped, in order, each with what it is."""
         return [(name, kinds[name]) for name in sorted(kinds) if not any(fnmatch.fnmatchcase(name, pattern) for pattern in self.without)]
 
     def _file(self, found: Found, kind: Kind) -> Iterator[Found]:
-        """The file, where it is one."""
+        """The file, if it is one."""
         if isinstance(kind, OSError):
             # It may be a folder.
             found.problem, self.is_blind = kind.strerror, True
@@ -145,11 +145,11 @@ class Walk:
 
 
 class Unread(dict[str, Kind]):
-    """What is in a folder that can't be read, as far as it can be told: nothing."""
+    """What is in a folder that can't be read, as far as is known: nothing."""
 
 
 def names_in(top: str, parts: Parts) -> Kinds:
-    """The names in the folder that these names lead to from another one, each with what it is, or the error where that can't be told."""
+    """The names in the folder that these names lead to from another one, each with what it is, or the error if that can't be found out."""
     with below(top, parts) as at:
         inner = os.open(".", READ | os.O_DIRECTORY, dir_fd=at)
         try:
@@ -160,7 +160,8 @@ def names_in(top: str, parts: Parts) -> Kinds:
 
 @contextlib.contextmanager
 def below(top: str, parts: Parts) -> Iterator[int]:
-    """The folder that these names lead to from another one, as a descriptor. Raises an error as `is_no_folder` tells where one is a link."""
+    """The folder that these names lead to from another one, as a descriptor. If one of them is a link, it raises an error that `is_no_folder`
+    recognizes."""
     at = os.open(top, THROUGH)
     try:
         for part in parts:
@@ -173,7 +174,7 @@ def below(top: str, parts: Parts) -> Iterator[int]:
 
 
 def is_no_folder(error: OSError) -> bool:
-    """Whether a link, or another file, is where a folder should be, or a link where a file should."""
+    """Whether a link, or another file, is where a folder should be, or a link where a file should be."""
     return error.errno in (errno.ENOTDIR, errno.ELOOP)
 
 
@@ -193,13 +194,13 @@ def is_link(kind: Kind | None) -> bool:
 
 
 def is_maildir(kinds: Kinds, parts: Sequence[str] = BOX) -> bool:
-    """Whether what is in a folder makes it a maildir. One of whose parts some are links still is one, so that its other mails stay mails."""
+    """Whether what is in a folder makes it a maildir. A maildir some of whose parts are links still is one, so that its other mails stay mails."""
     found = [kinds.get(part) for part in parts]
     return all(is_folder(kind) or is_link(kind) for kind in found) and (any(map(is_folder, found)) or len(parts) == 1)
 
 
 def decoded(name: str) -> str:
-    """A name of a mail folder, in which letters that are no ASCII may stand as `&..-` (RFC 3501, section 5.1.3)."""
+    """The decoded name of a mail folder, in which letters that are not ASCII may be written as `&..-` (RFC 3501, section 5.1.3)."""
     def one(mark: re.Match[str]) -> str:
         if not mark[1]:
             return "&"
@@ -213,7 +214,7 @@ def decoded(name: str) -> str:
 
 
 def again(found: Found) -> Parts | None:
-    """The parts of the path of a mail whose flags, and so its name, have changed since it was found; else None."""
+    """The parts of the path of a mail whose flags, and so whose name, have changed since it was found; else None."""
     if found.base is None:
         return None
     for part in ("cur", "new"):
@@ -226,7 +227,7 @@ def again(found: Found) -> Parts | None:
 
 
 def opened(found: Found) -> BinaryIO:
-    """A file, open to be read, whose `name` is its path. Raises `OSError`."""
+    """A file, opened for reading, whose `name` is its path. Raises `OSError`."""
     try:
         return _opened(found)
     except FileNotFoundError:
@@ -240,7 +241,7 @@ def opened(found: Found) -> BinaryIO:
 def _opened(found: Found) -> BinaryIO:
     try:
         with below(found.top, found.parts[:-1]) as at:
-            # What has become a pipe or a link in the meantime is not waited for, nor followed.
+            # If it has become a pipe or a link in the meantime, this neither blocks nor follows it.
             descriptor = os.open(found.parts[-1], READ | os.O_NONBLOCK, dir_fd=at)
     except OSError as error:
         if is_no_folder(error):
@@ -254,6 +255,6 @@ def _opened(found: Found) -> BinaryIO:
 
 
 def content(found: Found, most: int) -> bytes:
-    """The bytes of a file, of which there may be no more than so many: else one more is given. Raises `OSError`."""
+    """The bytes of a file, at most one more than the given limit. Raises `OSError`."""
     with opened(found) as file:
         return file.read(most + 1)

@@ -1,5 +1,5 @@
-"""How a folder gets to show a file system, and to show it no more: by the system's own calls where that is allowed, as to root, and else
-by `fusermount3`, which may do it for its caller's own folders. Also the loop that answers until it is over.
+"""How a file system is mounted on a folder, and unmounted: by system calls if that is allowed, as for root, and else by `fusermount3`, which may do
+it for its caller's own folders. Also the loop that answers until it ends.
 """
 from __future__ import annotations
 
@@ -20,17 +20,17 @@ from lisfs.mount.kernel import Connection, Unmounted
 DEVICE = "/dev/fuse"
 HELPER = "fusermount3"
 NO_SETUID, NO_DEVICES, DETACH = 2, 4, 2
-# How long what is under way at a stop has to come to its end, in seconds.
+# How many seconds requests that are under way at a stop have to end.
 PATIENCE = 2
 LIBRARY = ctypes.CDLL(None, use_errno=True)
 
 
 class NotMounted(Exception):
-    """The folder doesn't show it, and why."""
+    """The folder is not mounted, and why."""
 
 
 def mounted(folder: str, source: str, others: bool = False) -> int:
-    """Lets `folder` show what is answered at the device that is returned."""
+    """Mounts a file system on `folder`; requests come from the device that is returned."""
     options = ["default_permissions"] + (["allow_other"] if others else [])
     if not os.path.exists(DEVICE):
         raise NotMounted(f"{DEVICE} is missing: this system has no FUSE")
@@ -55,8 +55,8 @@ def _by_call(folder: str, source: str, options: list[str]) -> int:
 
 
 def _by_helper(folder: str, source: str, options: list[str]) -> int:
-    """The helper mounts, and sends the device over a socket that it is told the number of."""
-    # A mount by root needs no socket, and starts sooner without the module.
+    """The helper mounts, and sends the device over a socket whose number it gets."""
+    # A mount by root needs no socket, and starts faster without the module.
     import array
     import socket
     ours, theirs = socket.socketpair()
@@ -77,14 +77,14 @@ def _by_helper(folder: str, source: str, options: list[str]) -> int:
 
 
 def detach(folder: str) -> None:
-    """Takes the mount off the folder. What is still open goes on until it is closed."""
+    """Unmounts the folder. What is still open works until it is closed."""
     if LIBRARY.umount2(os.fsencode(folder), DETACH) and ctypes.get_errno() == errno.EPERM and shutil.which(HELPER):
         subprocess.run([HELPER, "-u", "-z", "--", folder], stdin=subprocess.DEVNULL, capture_output=True, check=False)
 
 
 @contextlib.contextmanager
 def stops() -> Iterator[int]:
-    """A descriptor that can be read from as soon as somebody wants an end: by a signal of the terminal, or of the system."""
+    """A descriptor that becomes readable when a signal asks for an end: from the terminal, or from the system."""
     ours, theirs = os.pipe()
     for end in (ours, theirs):
         os.set_blocking(end, False)
@@ -101,9 +101,9 @@ def stops() -> Iterator[int]:
 
 
 def answered(connection: Connection, folder: str, stop: int, program: int) -> bool:
-    """Answers until the folder is unmounted, and closes the device. A stop, or the end of the program, unmounts it; whether it was not the
+    """Answers until the folder is unmounted, and closes the device. A stop, or the end of the program, unmounts it. Returns False after the
     latter."""
-    # What can be read may be taken back before it is, as where the asker is killed, and then a read would wait, and no stop be seen.
+    # A message can be withdrawn before it is read, as when the asker is killed; then a read would block, and no stop be seen.
     os.set_blocking(connection.device, False)
     poll = select.poll()
     for descriptor in (connection.device, stop, program):
@@ -113,7 +113,7 @@ def answered(connection: Connection, folder: str, stop: int, program: int) -> bo
         while until is None or time.monotonic() < until:
             ready = dict(poll.poll(None if until is None else 100))
             if until is None and (stop in ready or program in ready):
-                # Elsewhere than here, since what is unmounted may have something to ask first.
+                # In another thread, since unmounting may cause further requests first.
                 ending.start()
                 until, is_wanted = time.monotonic() + PATIENCE, program not in ready
                 poll.unregister(stop)
@@ -128,6 +128,6 @@ def answered(connection: Connection, folder: str, stop: int, program: int) -> bo
     finally:
         os.close(connection.device)
     if until is not None:
-        # Nothing holds it up now, since nobody waits for an answer any more.
+        # Nothing delays it now, since nobody waits for an answer any more.
         ending.join()
     return is_wanted

@@ -40,16 +40,16 @@ def tell(line: str) -> None:
 
 
 def run(image: str, folder: str, with_derived: bool, others: bool) -> int:
-    """The status."""
+    """Runs the mount, and returns the status."""
     if what := missing():
         raise NotMounted(what)
     if fault := folder_fault(folder):
         raise NotMounted(fault)
     program, dump = opened("mount", image)
-    # However it goes, nobody has the image any more at the end.
+    # However it ends, no process has the image afterwards.
     with stops() as stop, program:
         tree = Tree(Image(program, dump, limits_of(image)), with_derived, os.stat(image).st_mtime_ns, others)
-        # From the root on, since `.` is the folder below what is mounted on it.
+        # The absolute path, since `.` is the folder below the mount.
         whole = os.path.abspath(folder)
         connection = Connection(mounted(whole, image, others), tree)
         tell(f"{image} is at {folder}")

@@ -1,10 +1,10 @@
 """An open image as a mount needs it: what folders show, what is in files, and the commands that change them.
 
-Each change is one command of the program, and is known here once its `ok` is there. The words of a file that was changed are asked for
-when somebody needs them, those of many files in one go, and the derived words of files that were there at the start too.
+Each change is one command of the program, and is applied here once its `ok` has come. The words of a changed file are asked for when they are needed,
+those of many files at once, and so are the derived words of files that existed at the start.
 
-A new file that somebody writes is known here before: it waits for its bytes, so that one `add` makes it whole, where `create` and `write`
-would be two changes. It waits only where nothing can keep the program from making it, and until anything else is to be changed or asked.
+A new file that is being written is known here earlier: it waits for its bytes, so that one `add` makes it whole, since `create` and `write` would be
+two changes. It waits only if nothing can keep the program from making it, and until anything else must be changed or asked.
 """
 import collections
 import errno
@@ -24,7 +24,7 @@ from lisfs.words import TEST, head_of, is_head, is_plain, is_test, is_word
 if TYPE_CHECKING:
     from lisfs.served import News
 
-# So many bytes of files are kept in memory, those that were looked at last.
+# How many bytes of files are kept in memory, the most recently used ones.
 KEPT = 32 * 1_048_576
 
 
@@ -36,7 +36,7 @@ class Listing(NamedTuple):
 
 
 def is_stronger(test: bytes, other: bytes) -> bool:
-    """Whether a word is a test that says more than another one, and all that it says."""
+    """Whether a word is a test that entails another one, and differs from it."""
     one, two = TEST.fullmatch(test), TEST.fullmatch(other)
     if not one or not two or one[1] != two[1]:
         return False
@@ -49,30 +49,30 @@ class Image(image.Image[File]):
         self.files, self.numbers = self.index.files, 0
         for file in self.files.values():
             self._number(file)
-        # What entails what by axioms: of each left side the right ones, and of each right side the left ones.
+        # What axioms entail: the right sides of each left side, and the left sides of each right side.
         self.axioms: dict[bytes, set[bytes]] = {}
         self.lefts: dict[bytes, set[bytes]] = {}
         for left, right in dump.axioms:
             self.axioms.setdefault(left, set()).add(right)
             self.lefts.setdefault(right, set()).add(left)
-        # Those whose words are not known since they were changed, and those of which only the words are known that come from given ones.
+        # The files whose words are not known since they were changed, and the files of which only the words that come from given ones are known.
         self.stale, self.unasked = set(self.files.values()), set[File]()
         self._know_given()
         # The declared words that lost their last file and were in no listing since.
         self.unseen: set[bytes] = set()
         self.contents: collections.OrderedDict[File, bytes] = collections.OrderedDict()
         self.content_bytes = 0
-        # The file that waits, or None. How many words a new file at a place may bring, by the words of the place and the ending of the name,
-        # and how many more there surely is room for.
+        # The file that waits, or None.
         self.waiting: File | None = None
-        # Those that another client has made, until somebody says how they look.
+        # The files that another client has made, until their attributes are set.
         self.fresh: list[File] = []
+        # How many words a new file may bring, by the words of its place and its suffix, and how many more there surely is room for.
         self.brought: dict[tuple[tuple[bytes, ...] | None, bytes], int] = {}
         self.spare = 0
 
     def _know_given(self) -> None:
-        """At first files are known by the words that come from given ones, since it takes long to ask for all, and most folders need no derived
-        ones. All are asked for if a test, or an axiom over a derived word, may give a file a declared word."""
+        """At first only the words that come from given ones are known, since asking for all takes long, and most folders need no derived words. All
+        are asked for if a test, or an axiom over a derived word, may give a file a declared word."""
         if any(map(is_test, self.declared)) or any(map(self.is_derived, self.axioms)):
             return
         entailed = functools.cache(lambda word: frozenset(self.entailed([word])))
@@ -132,12 +132,12 @@ class Image(image.Image[File]):
     # What is known of words.
 
     def is_derived(self, word: bytes) -> bool:
-        """Nobody gives a file such a word: it comes from the name, the size or the bytes. Its head can't be declared."""
+        """Whether nobody gives a file such a word: it comes from the name, the size or the bytes. Its head can't be declared."""
         head = head_of(word)
         return head is not None and head not in self.declared
 
     def is_known(self, word: bytes) -> bool:
-        """Whether a formula may have it."""
+        """Whether a formula may contain it."""
         if is_plain(word) or word in self.declared:
             return word in self.declared
         self._refresh([word])
@@ -163,8 +163,8 @@ class Image(image.Image[File]):
         return [head] if head else []
 
     def _entailing(self, word: bytes) -> Iterable[bytes]:
-        """The words that entail this one, without a third between them: the left sides of its axioms, the values of a head that files have,
-        and the stronger ones of a declared test."""
+        """The words that entail this one directly: the left sides of its axioms, the values of a head that files have, and the stronger ones of a
+        declared test."""
         if is_head(word):
             return [value for value in self.index.words() if value.startswith(word) and value != word]
         if is_test(word):
@@ -175,7 +175,7 @@ class Image(image.Image[File]):
 
     def _refresh(self, words: Iterable[bytes] | None = None) -> None:
         """Asks for the words of the files that were changed. Without `words`, or if one of them is derived, all words of all files are known
-        then."""
+        afterwards."""
         self.settle()
         asked = self.stale
         if self.unasked and (words is None or any(map(self.is_derived, words))):
@@ -203,8 +203,8 @@ class Image(image.Image[File]):
         return self._listing(place, here, self._increments(place, here), with_derived)
 
     def below(self, place: Place, word: bytes, with_derived: bool = False) -> Listing:
-        """The same with no words but those that entail `word`, which all files of the place have: the most general ones of them that
-        narrow it. The program is not asked."""
+        """The same with only those words that entail `word`, which all files of the place have: the most general ones that narrow it. The program is
+        not asked."""
         here = self._extension(place, with_derived)
         return self._listing(place, here, self._narrower(word, here), with_derived)
 
@@ -218,7 +218,7 @@ class Image(image.Image[File]):
         covered = 0
         for word in words:
             covered |= self.index.having(word)
-        # A word's folder goes before a file of the same name, which `:all` shows.
+        # A word's folder hides a file of the same name, which `:all` shows.
         files = [file for file in self.index.of(here & ~covered) if file.name not in self.declared]
         unused = self._unused_at(place, found)
         self.unseen.difference_update(unused)
@@ -250,8 +250,8 @@ class Image(image.Image[File]):
         return [text for letter, text in listing if letter == b"d"]
 
     def _unused_at(self, place: Place, shown: Iterable[bytes]) -> list[bytes]:
-        """The declared words that no file has and that belong to a place of words: they entail what it says, and no other word that is shown
-        there. So a listing would show them if a file had each, and steps along listings lead to each."""
+        """The declared words that no file has and that belong to a place of words: they entail its words, and no other word that is shown there. So a
+        listing would show them if a file had each, and steps along listings lead to each."""
         if place.words is None:
             return []
         said, unused = self.entailed(place.words), self._unused(place.words)
@@ -261,7 +261,7 @@ class Image(image.Image[File]):
         return [word for word in found if entailed[word].isdisjoint(covers - {word})]
 
     def _unused(self, words: tuple[bytes, ...]) -> set[bytes]:
-        """The declared words that no file has, and of these at most those that entail the last one of some words."""
+        """The declared words that no file has; if there are `words`, only those that entail the last one."""
         found = self._declared_entailing(words[-1]) if words else self.declared
         return {word for word in found if not self.index.having(word)}
 
@@ -271,7 +271,7 @@ class Image(image.Image[File]):
         left = [word]
         while left:
             word = left.pop()
-            # Nothing that is declared entails a value or a head: the right side of an axiom is plain.
+            # No declared word entails a value or a head: the right side of an axiom is plain.
             more = set() if head_of(word) else set(self._entailing(word)) - found
             found |= more
             left += more
@@ -305,29 +305,29 @@ class Image(image.Image[File]):
     # Changes.
 
     def _begin_change(self) -> None:
-        """What brings words brings no more than a file has."""
+        """Prepares a change. It brings at most as many words as a file can have."""
         self.settle()
         self.spare -= MAX_DESCRIPTION
 
     def _words_given(self, place: Place) -> list[bytes]:
-        """The words that a file gets by being made here."""
+        """The words that a file gets when it is made here."""
         if place.words is None:
             raise OSError(errno.EPERM, "not a place of words")
         return [word for word in place.words if not is_head(word) and not self.is_derived(word)]
 
     def begin(self, name: bytes, place: Place) -> File:
-        """A new file at a place, which is about to be written."""
+        """A new file at a place, which will be written."""
         self.settle()
         given = self._words_given(place)
         if not self._is_sure(name, place, given):
             return self.create(name, place)
-        # What it may bring is no more there for others.
+        # The room that it may need is not available to others.
         self.spare -= self._most_brought(place, given, name)
         self.waiting = self._take(name, 0, given)
         return self.waiting
 
     def settle(self) -> None:
-        """Makes the file that waits, without bytes. Where the program has ended it still waits, so that no later call takes it for made."""
+        """Makes the file that waits, without bytes. If the program has ended, the file still waits, so that no later call takes it for made."""
         if file := self.waiting:
             try:
                 self.program.create(file.name, *sorted(file.given))
@@ -338,11 +338,11 @@ class Image(image.Image[File]):
             self.waiting = None
 
     def _is_sure(self, name: bytes, place: Place, given: list[bytes]) -> bool:
-        """Whether the program would make an empty file with these words, by `create` or by `add`."""
+        """Whether the program would certainly make an empty file with these words, by `create` or by `add`."""
         if name in self.files or len(self.files) >= self.limits.files or not len(place.words or ()) == len(given) <= MAX_ASSIGNED:
             return False
         if self.program.is_shared:
-            # Another client may make a file of this name, or take the room.
+            # Another client may make a file of this name, or use the room.
             return False
         if len(b" ".join((b"add", name, b"%d" % self.limits.file_bytes, *given))) > MAX_LINE:
             return False
@@ -352,7 +352,7 @@ class Image(image.Image[File]):
         return count <= min(MAX_DESCRIPTION, self.spare)
 
     def _most_brought(self, place: Place, given: list[bytes], name: bytes) -> int:
-        """No new file with these words and this name has more words, as long as nothing is declared."""
+        """The most words that a new file with these words and this name can have, as long as nothing is declared."""
         ending = b"ext:" + name.rpartition(b".")[2]
         key = place.words, ending if ending in self.axioms else b"ext:?"
         if key not in self.brought:
@@ -369,11 +369,11 @@ class Image(image.Image[File]):
         try:
             self.program.create(name, *given)
         except NotSent:
-            # The line would be too long; at its place it has the name alone.
+            # The line would be too long; at the place the name alone is enough.
             with self.at(place.text):
                 self.program.create(name)
         file = self._take(name, 0, given)
-        # A head, and a word that comes from the file itself, are not given: without them it would be elsewhere.
+        # A head, or a word that comes from the file itself, is not given: so the file may not be at this place.
         if len(given) < len(place.words or ()) and not self.is_here(file, place):
             self.remove(file)
             raise OSError(errno.EPERM, "a file that is made here would not be here")
@@ -396,7 +396,7 @@ class Image(image.Image[File]):
         try:
             self.program.add(file.name, content, *sorted(file.given))
         except Refused:
-            # It is there, as it was said to be, and what was written is not.
+            # The file exists, as was acknowledged, but without what was written.
             self.settle()
             raise
         self.waiting = None
@@ -420,8 +420,8 @@ class Image(image.Image[File]):
         self.stale.add(file)
 
     def replace(self, file: File, content: bytes, other: File) -> None:
-        """`other` gets these bytes, and `file` its name; what was `other` is gone. A stop between leaves the new bytes, and the old name
-        as well."""
+        """`other` gets these bytes, and `file` takes its name and words; `other` itself is gone. If it is stopped in between, the new bytes are
+        there, and the old name too."""
         self._begin_change()
         self.program.write(other.name, content)
         self.program.rm(file.name)
@@ -447,7 +447,7 @@ class Image(image.Image[File]):
             raise OSError(errno.EINVAL, "no word")
         if place.words is None or not all(is_plain(word) for word in place.words):
             raise OSError(errno.EPERM, "not a place of plain words")
-        # A name would then stand for two things.
+        # Otherwise a name would mean two things.
         if word in self.files:
             raise OSError(errno.EEXIST, "a file has this name")
         self._begin_change()
@@ -461,10 +461,10 @@ class Image(image.Image[File]):
                 self.lefts.setdefault(right, set()).add(word)
 
     def take_back(self, word: bytes, place: Place) -> None:
-        """Declares a word no more that no file has, and that belongs to a place. Another one that nothing here has is left as it is.
+        """Removes the declaration of a word that no file has, and that belongs to a place. Another word that nothing here has is left as it is.
 
-        Words below it go with it where they lost their last file and were in no listing since: while all files of a folder had such a
-        word, it narrowed nothing, so that who removed these files never saw it.
+        Words below it are removed too if they lost their last file and were in no listing since: while all files of a folder had such a word, it
+        narrowed nothing, so whoever removed these files never saw it.
         """
         inner = place.step(word)
         if self.extension(inner):

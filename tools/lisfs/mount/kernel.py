@@ -1,8 +1,8 @@
-"""The messages of /dev/fuse: each is cut into what is asked, one of the handlers answers, and the answer is put together.
+"""The messages of /dev/fuse: each is parsed, one of the handlers answers, and the reply is built.
 
-It knows nothing of images. What answers has the calls of `Handlers` (`tree.Tree` is one); an `OSError` that they raise is the answer. The
-device is any descriptor that gives one message a read and takes one a write, so a pair of sockets serves for tests. The layouts are those of
-linux/fuse.h, protocol 7, as of minor 23: later minors add to them and change none.
+It knows nothing about images. The handlers have the methods of `Handlers` (`tree.Tree` is one); an `OSError` that they raise is the answer. The
+device is any descriptor with one message per read and per write, so tests use a pair of sockets. The layouts are those of linux/fuse.h, protocol 7,
+as of minor 23: later minors add to them and change none.
 """
 import enum
 import errno
@@ -15,25 +15,25 @@ from typing import NamedTuple, Protocol, TypeAlias
 
 from lisfs.endings import say_fault
 
-# The protocol, and the minors of it that are spoken.
+# The version of the protocol: the major number, our minor number and the oldest supported one.
 MAJOR, MINOR, OLDEST_MINOR = 7, 38, 23
-# So much is written or read by one message at most, and so much a message has beside that at most.
+# The most data of a message, and the most bytes of a message besides.
 LARGEST, BESIDE = 1_048_576, 8_192
 PAGE = 4_096
-# What the reply to INIT says: so many requests the kernel has under way that nobody waits for, from so many on it counts as congested; and times
-# go by so many nanoseconds.
+# Values in the reply to INIT: how many background requests the kernel may have under way, from how many on it counts as congested, and the time
+# granularity in nanoseconds.
 MAX_BACKGROUND, CONGESTED, TIME_STEP = 12, 9, 1
 SECOND = 1_000_000_000
 # The bits of a mode that may be set.
 PERMISSIONS = 0o7777
-# An entry of a folder begins at a multiple of this.
+# The alignment of a folder's entries.
 ALIGNMENT = 8
-# The names of messages that nobody has asked for, and the one of them that is sent. Its place of -1 is that of no bytes: attributes alone are old.
+# The names of notifications, and the one that is sent. The offset -1 means no bytes: only the attributes are stale.
 UNASKED, INVALID_INODE, NO_BYTES = 0, 2, -1
 
 
 class Opcode(enum.IntEnum):
-    """What a message asks for (`enum fuse_opcode`)."""
+    """What a message requests (`enum fuse_opcode`)."""
 
     LOOKUP = 1
     FORGET = 2
@@ -65,7 +65,7 @@ class Opcode(enum.IntEnum):
 
 
 class Wanted(enum.IntFlag):
-    """What the reply to INIT may choose. With the first an open says that it truncates."""
+    """The flags that the reply to INIT may choose. With the first, an open says that it truncates."""
 
     ATOMIC_O_TRUNC = 1 << 3
     BIG_WRITES = 1 << 5
@@ -78,7 +78,7 @@ KEEP_CACHE, NO_FLUSH = 1 << 1, 1 << 5
 # What a SETATTR changes: the bits of its first field.
 MODE, OWNER, GROUP, SIZE, ACCESSED, MODIFIED, HANDLE, ACCESSED_NOW, MODIFIED_NOW = (1 << bit for bit in range(9))
 
-# The layouts, by their names in linux/fuse.h. A message may go on after what is read of it, and a name follows where it has one.
+# The layouts, by their names in linux/fuse.h. A message may be longer than what is read of it, and a name follows if it has one.
 IN_HEADER = struct.Struct("=IIQQIII4x")  # length, opcode, unique, node, user, group, process
 OUT_HEADER = struct.Struct("=IiQ")  # length, error, unique
 ATTR = struct.Struct("=6Q10I")
@@ -86,7 +86,7 @@ ENTRY_OUT = struct.Struct("=QQQQII")  # node, generation, seconds of the name an
 ATTR_OUT = struct.Struct("=QII")  # seconds and nanoseconds of the attributes
 OPEN_OUT = struct.Struct("=QII")  # handle, flags
 WRITE_OUT = struct.Struct("=II")  # size
-DIRENT = struct.Struct("=QQII")  # inode, place of the next entry, length of the name, kind
+DIRENT = struct.Struct("=QQII")  # inode, offset of the next entry, length of the name, kind
 INIT_IN = struct.Struct("=IIII")  # major, minor, bytes read ahead, flags
 INIT_OUT = struct.Struct("=IIIIHHIIHHI28x")
 STATFS_OUT = struct.Struct("=QQQQQIII28x")
@@ -101,16 +101,16 @@ RENAME2_IN = struct.Struct("=QII")  # the other folder, flags
 LINK_IN = struct.Struct("=Q")  # the file
 OPEN_IN = struct.Struct("=II")  # flags
 CREATE_IN = struct.Struct("=IIII")  # flags, mode, mask
-TRANSFER_IN = struct.Struct("=QQIIQII")  # `fuse_read_in` and `fuse_write_in`: handle, place, size, flags
-HANDLE_IN = struct.Struct("=Q")  # the beginning of all that are about a handle alone
-INVAL_INODE_OUT = struct.Struct("=Qqq")  # node, the place of the bytes that are old, and how many
+TRANSFER_IN = struct.Struct("=QQIIQII")  # `fuse_read_in` and `fuse_write_in`: handle, offset, size, flags
+HANDLE_IN = struct.Struct("=Q")  # the beginning of all layouts that have only a handle
+INVAL_INODE_OUT = struct.Struct("=Qqq")  # node, the offset of the stale bytes, and how many
 
 # The bytes of an answer.
 Reply: TypeAlias = bytes | bytearray | memoryview
 
 
 class Caller(NamedTuple):
-    """Who asks. `process` is the number of the thread that asks, and 0 where it is none that is seen from here."""
+    """Who asks. `process` is the number of the thread that asks, or 0 if it is not visible from here."""
 
     user: int
     group: int
@@ -133,7 +133,7 @@ class Attributes(NamedTuple):
 
 
 class Entry(NamedTuple):
-    """What a name leads to: its number, what it is, and for how many seconds the kernel may keep the attributes."""
+    """The result of a lookup: the number, the attributes, and for how many seconds the kernel may keep these."""
 
     node: int
     attributes: Attributes
@@ -141,7 +141,7 @@ class Entry(NamedTuple):
 
 
 class Changes(NamedTuple):
-    """What is to be changed of a file; None stays."""
+    """The changes of a file; a field that is None stays."""
 
     mode: int | None
     user: int | None
@@ -177,7 +177,7 @@ class Created(NamedTuple):
 
 
 class Unmounted(Exception):
-    """Nobody will ask any more."""
+    """There will be no more requests."""
 
 
 def packed(found: Attributes) -> bytes:
@@ -188,7 +188,7 @@ def packed(found: Attributes) -> bytes:
 
 
 def entry_bytes(entry: Entry) -> bytes:
-    # A name is asked for again each time: what it leads to changes with the words of a file.
+    # A name is looked up again each time: what it leads to changes with the words of a file.
     return ENTRY_OUT.pack(entry.node, 0, 0, entry.seconds, 0, 0) + packed(entry.attributes)
 
 
@@ -197,13 +197,13 @@ def names(body: memoryview) -> list[bytes]:
 
 
 class Changed(Protocol):
-    """Is told the number of each file whose attributes have changed."""
+    """Called with the number of each file whose attributes have changed."""
 
     def __call__(self, number: int, /) -> None: ...
 
 
 class Handlers(Protocol):
-    """What answers. Files and folders are told by their numbers, and open ones by those of their handles."""
+    """The object that answers. Files and folders are identified by their numbers, and open ones by their handles."""
 
     # The thread that asks.
     asker: int
@@ -234,7 +234,7 @@ class Handlers(Protocol):
 
 
 class Connection:
-    """One mount. `handlers` answer; `wake` is a descriptor that ends the waiting when something can be read from it, or None."""
+    """One mount, whose messages `handlers` answer."""
 
     def __init__(self, device: int, handlers: Handlers) -> None:
         self.device, self.handlers = device, handlers
@@ -254,13 +254,13 @@ class Connection:
         handlers.changed = self.changed
 
     def serve(self) -> None:
-        """Answers one message, which is waited for. Raises `Unmounted` where there will be none."""
+        """Waits for one message, and answers it. Raises `Unmounted` if there will be none."""
         try:
             count = os.readv(self.device, [self.buffer])
         except OSError as error:
             if error.errno == errno.ENODEV:
                 raise Unmounted from None
-            # A message that was taken back while it was read.
+            # A message that was withdrawn while it was read.
             if error.errno in (errno.ENOENT, errno.EINTR, errno.EAGAIN):
                 return
             raise
@@ -270,7 +270,7 @@ class Connection:
         self.handlers.asker = process
         answer: Reply
         try:
-            # What isn't known here isn't asked again: the kernel does without.
+            # The kernel does not repeat an unknown request: it does without.
             call = self.calls.get(code)
             if call is None:
                 raise OSError(errno.ENOSYS, "not known")
@@ -278,7 +278,7 @@ class Connection:
             failed = 0
         except OSError as error:
             answer, failed = b"", error.errno or errno.EIO
-        except Exception:  # A fault of this program is told, and the asker gets an error; nothing was acknowledged.
+        except Exception:  # An internal error is reported, and the asker gets an error; nothing was acknowledged.
             say_fault()
             answer, failed = b"", errno.EIO
         if code not in self.silent:
@@ -288,12 +288,12 @@ class Connection:
         try:
             os.writev(self.device, [head, body])
         except OSError as error:
-            # The asker was killed meanwhile, or what is told of is not kept there.
+            # The asker was killed meanwhile, or the kernel does not keep what changed.
             if error.errno not in (errno.ENOENT, errno.ENODEV, errno.ENOTCONN):
                 raise
 
     def changed(self, node: int) -> None:
-        """Tells the kernel that what it keeps of a file's attributes is old. Its bytes are then looked at by these."""
+        """Notifies the kernel that the attributes that it keeps for a file are stale. It then checks the file's bytes by the new ones."""
         self.send(OUT_HEADER.pack(OUT_HEADER.size + INVAL_INODE_OUT.size, INVALID_INODE, UNASKED), INVAL_INODE_OUT.pack(node, NO_BYTES, 0))
 
     def init(self, _: int, body: memoryview, caller: Caller) -> bytes:

@@ -1,4 +1,4 @@
-"""What a mount keeps beside an image: of each file how it looks and what was written to it, and the folders and files that the kernel knows."""
+"""What a mount keeps apart from an image: the attributes of each file and what was written to it, and the folders and files that the kernel knows."""
 from __future__ import annotations
 
 import enum
@@ -17,14 +17,14 @@ Listed: TypeAlias = tuple[int, int, bytes]
 
 
 class Looks:
-    """What an image doesn't keep of a file or a folder: it lives for one mount."""
+    """The attributes of a file or a folder that an image doesn't keep: they last for one mount."""
 
     def __init__(self, mode: int, user: int, group: int, now: int) -> None:
         self.mode, self.user, self.group = mode, user, group
         self.accessed = self.modified = self.changed = now
 
     def take(self, changes: Changes, now: int) -> None:
-        """Changes what is to be changed."""
+        """Applies the given changes."""
         self.mode = self.mode if changes.mode is None else changes.mode
         self.user = self.user if changes.user is None else changes.user
         self.group = self.group if changes.group is None else changes.group
@@ -33,19 +33,19 @@ class Looks:
         self.changed = now
 
 
-# How a file looks until that is said.
+# The attributes of a file until they are set.
 UNKNOWN = Looks(0, 0, 0, 0)
 
 
 class Draft:
-    """What was written to a file and is not in the image yet."""
+    """What was written to a file and is not yet in the image."""
 
     def __init__(self) -> None:
-        # The bytes, once somebody wrote. Whether they are other ones than those of the image; whether all that happened is that somebody
-        # emptied it by opening it; and whether they were refused since the last change.
+        # The bytes, once something was written. Whether they differ from those of the image; whether an open with truncation was the only change; and
+        # whether they were refused since the last change.
         self.content: bytearray | None = None
         self.is_dirty = self.is_emptied = self.is_refused = False
-        # How many have the file open to write, and when it was written last.
+        # How many have the file open for writing, and when it was last written.
         self.writers = 0
         self.modified: int | None = None
 
@@ -54,20 +54,20 @@ class Draft:
 
 
 class File(index.File):
-    """A file of the image, of which `given` are the words that it surely was given. No other file ever has its `number`. `refusal` is what
-    kept a file that waited from being made, and None of all others."""
+    """A file of the image. `given` are the words that it was certainly given. No other file ever has its `number`. `refusal` is why a file that
+    waited was not made, and None for all others."""
 
     def __init__(self, name: bytes, size: int, given: Iterable[bytes], bit: int) -> None:
         super().__init__(name, size, given, bit)
         self.number, self.is_gone = 0, False
         self.refusal: Refused | None = None
-        # Whether it is another client of a served image that removed it.
+        # Whether another client of a served image removed it.
         self.is_lost = False
-        # The tree says how it looks. How often it is open, and where the kernel knows it.
+        # The attributes, which the tree sets; how often it is open; and the nodes by which the kernel knows it.
         self.looks, self.handles = UNKNOWN, 0
         self.draft: Draft | None = None
         self.nodes: set[Leaf] = set()
-        # What it had when it was removed while it was open; and a count of its changes.
+        # Its bytes, if it was removed while it was open; and a count of its changes.
         self.kept, self.version = b"", 0
 
 
@@ -80,23 +80,23 @@ class Shows(enum.Enum):
 
 
 class Folder:
-    """A place under one path. `:by/music` and `music/:by` are two folders, since a folder stands in one other. `begin` is how many names of
-    the place lead to the mounted folder or to the last `:by` of the path."""
+    """A place under one path. `:by/music` and `music/:by` are two folders, since a folder has one parent. `begin` is how many names of the place lead
+    to the mounted folder or to the last `:by` of the path."""
 
     def __init__(self, number: int, path: bytes, place: Place, shows: Shows, begin: int = 0) -> None:
         self.number, self.key, self.place, self.shows, self.begin, self.lookups = number, path, place, shows, begin, 0
-        # Each lookup asks this, and a member of an enum takes longer to find than an attribute.
+        # Each lookup needs this, and an attribute is faster than a comparison with an enum member.
         self.shows_all = shows is Shows.FILES
         self.inode = inode_of(path)
 
 
 class Leaf:
-    """A file as it stands in one folder."""
+    """A file as an entry of one folder."""
 
     def __init__(self, number: int, folder: Folder, file: File) -> None:
         self.number, self.key, self.file, self.lookups = number, (folder.key, file), file, 0
         self.inode = leaf_inode(folder, file)
-        # How many have it open to write, and which bytes of the file the kernel may have kept.
+        # How many have it open for writing here, and which version of the bytes the kernel may have cached.
         self.writers, self.version = 0, -1
 
 
@@ -104,14 +104,14 @@ Node: TypeAlias = Folder | Leaf
 
 
 class Handle:
-    """A file that somebody has open, and whether to write."""
+    """A file that somebody has open, and whether for writing."""
 
     def __init__(self, node: Leaf, writes: bool) -> None:
         self.node, self.file, self.writes = node, node.file, writes
 
 
 class Shelf:
-    """An open folder: what it showed when it was read from its beginning."""
+    """An open folder: its entries when it was last read from the beginning."""
 
     def __init__(self, folder: Folder) -> None:
         self.folder = folder
@@ -119,7 +119,7 @@ class Shelf:
 
 
 def inode_of(path: bytes) -> int:
-    """The same each time, without a table of all paths that were ever looked at."""
+    """The inode of a path: the same each time, without a table of all paths that were ever looked up."""
     return int.from_bytes(hashlib.blake2b(path, digest_size=8).digest(), "little") & INODES
 
 

@@ -1,8 +1,8 @@
-"""What a folder shows, so that a program that walks all folders comes to an end.
+"""What a folder shows, so that a program that walks all folders ends.
 
-A listing of the program has each word that narrows a place, so that the same files are there again in each order of their words. Here a folder
-shows all of these only near its beginning: the mounted folder, `:by`, or a formula that no listing shows, as `!live`. Below, it shows the words
-that entail its last one, as the values of a head, and each file that these don't cover. What a listing leaves out opens by its name.
+A listing of the program has each word that narrows a place, so that the same files appear again for each order of their words. Here a folder shows
+all of these only near its beginning: the mounted folder, `:by`, or a formula that no listing shows, such as `!live`. Below, it shows the words that
+entail its last one, as the values of a head, and each file that these don't cover. What a listing leaves out opens by its name.
 """
 from __future__ import annotations
 
@@ -11,14 +11,14 @@ from lisfs.mount.image import Image, Listing
 from lisfs.mount.nodes import Folder, Shows
 from lisfs.words import head_of, is_head
 
-# An image of at most so many files is small, and one of which derived words are shown too, since a file has more of them.
+# The most files of a small image, without and with derived words: files have more words with these.
 SMALL = {Shows.GIVEN: 250, Shows.DERIVED: 50}
-# So many words are put together on a way from the beginning that listings show, in a small image and in any other.
+# How many independent words a path through listings can combine from its beginning, in a small image and in any other.
 TOGETHER, TOGETHER_IF_LARGE = 2, 1
 
 
 def shown(image: Image, folder: Folder) -> Listing:
-    """The words and the files that a folder shows. If the image is not small, the values of a head stand in the folder of the head."""
+    """The words and the files that a folder shows. If the image is not small, the values of a head are shown only in the folder of the head."""
     with_derived, is_small = folder.shows is Shows.DERIVED, len(image.files) <= SMALL[folder.shows]
     words = words_since_beginning(image, folder)
     is_near = together(image, words) < (TOGETHER if is_small else TOGETHER_IF_LARGE)
@@ -29,7 +29,7 @@ def shown(image: Image, folder: Folder) -> Listing:
 
 
 def words_since_beginning(image: Image, folder: Folder) -> list[bytes]:
-    """The words on the way to a folder from its beginning on, which is behind the last name that no listing shows."""
+    """The words of the path to a folder from its beginning on, which follows the last name that no listing shows."""
     words: list[bytes] = []
     for name, step in list(zip(folder.place.names, folder.place.steps))[folder.begin:]:
         if isinstance(step, Word):
@@ -42,5 +42,5 @@ def words_since_beginning(image: Image, folder: Folder) -> list[bytes]:
 
 
 def together(image: Image, words: list[bytes]) -> int:
-    """How many words are put together on a way: one that entails the word before it says no more than itself."""
+    """How many independent words a path combines: a word that entails the word before it counts once with it."""
     return sum(not before or before not in image.entailed([word]) for before, word in zip([b"", *words], words))

@@ -1,12 +1,11 @@
-"""What a file system is asked, answered over an image: names, attributes, and what is written until it is whole.
+"""The calls of a file system, answered from an image: names, attributes, and what is written until it is complete.
 
-A folder is a place. A file stands in each folder that it meets, and has there an inode of its own, so that `mv music/x .` is a change and
-an editor, which sees two links, writes in place. What is written is kept as a draft, which all writers of a file share; one `write` command
-takes it whole into the image when somebody closes the file or syncs it. Who opened the file at the same path sees the draft, as
-programs expect of each other; at other paths there are the bytes of the image, so that `cp music/x x` reads them though it emptied its
-own target.
+A folder is a place. A file is in each folder whose formula it meets, with a separate inode in each, so that `mv music/x .` is a change and an editor,
+which sees two links, writes in place. What is written is kept as a draft, which all writers of a file share; one `write` command puts it whole into
+the image when somebody closes the file or syncs it. Programs that opened the file at the same path see the draft, as they expect of each other; at
+other paths they see the bytes of the image, so that `cp music/x x` reads them although it emptied its own target.
 
-It is for one thread. An `OSError` is the answer where something is not to be.
+It is for one thread. An `OSError` is the answer if something is not allowed.
 """
 from __future__ import annotations
 
@@ -29,13 +28,14 @@ from lisfs.mount.shown import shown
 from lisfs.words import FILE_NAME, head_of
 
 ALL, BY = b":all", b":by"
-# What a folder of such a name shows.
+# What a folder with such a name shows.
 SHOWS = {BY: Shows.DERIVED, ALL: Shows.FILES}
-# Files that say to a program that looks into all folders, as one that makes an index, that it has no business here. They are empty, in the
-# mounted folder where the image has no file of the name, and in no listing.
+# Files that tell indexers and other programs that read all folders to stay out. They are empty, in the mounted folder if the image has no file of the
+# name, and in no listing.
 MARKERS = (b".metadata_never_index", b".noindex", b".nomedia", b".trackerignore")
 FOLDER_KIND, FILE_KIND = 4, 8
-# For so long the kernel may keep attributes, since it is told when they change; and none at all of a served image, which others change too.
+# For how many seconds the kernel may keep attributes, since it is notified when they change. For a served image, which others change too, it keeps
+# none.
 KEPT_SECONDS = 3_600
 ROOT_NUMBER, NO_REPLACEMENT = 1, 1
 LINKS, FOLDER_LINKS = 2, 1
@@ -47,8 +47,8 @@ def fault(number: int, why: str) -> OSError:
 
 
 def answering(call: Call) -> Call:
-    """A call of a tree: what the program says, as an error of the system."""
-    # All that is asked goes through here, so no arguments are taken apart.
+    """A method of a tree: refusals and the end of the program become errors of the system."""
+    # All requests go through here, so no arguments are taken apart.
     @functools.wraps(call)
     def answer(*given: Any) -> Any:
         tree: Tree = given[0]
@@ -57,7 +57,7 @@ def answering(call: Call) -> Call:
                 tree.catch_up()
             return call(*given)
         except Refused as refused:
-            # Few mounts meet a refusal, and the table of them is large.
+            # Few mounts meet a refusal, and its table is large.
             from lisfs.refusals import error_of
             raise fault(error_of(refused.number), str(refused)) from None
         except (TooLarge, NotSent) as error:
@@ -65,7 +65,7 @@ def answering(call: Call) -> Call:
         except NotAFormula as error:
             raise fault(errno.ENOENT, str(error)) from None
         except NotAReply as error:
-            # No later reply can be told, so that nothing more is to be asked.
+            # No later reply can be recognized, so nothing more may be asked.
             tree.image.program.kill()
             raise fault(errno.EIO, str(error)) from None
         except Ended as end:
@@ -74,13 +74,12 @@ def answering(call: Call) -> Call:
 
 
 def writes(flags: int) -> bool:
-    """Whether who opens a file so may write to it, or empties it."""
+    """Whether an open with these flags allows writing, or empties the file."""
     return flags & os.O_ACCMODE != os.O_RDONLY or bool(flags & os.O_TRUNC)
 
 
 def is_open_in(process: int, inode: int) -> bool:
-    """Whether a process has a file of this inode open to write. It is asked by the numbers alone: a look at the file would be a question to
-    us."""
+    """Whether a process has a file of this inode open for writing. Only /proc is read: a look at the file itself would be a request to this mount."""
     folder = f"/proc/{process}/fdinfo"
     try:
         for number in os.listdir(folder):
@@ -94,30 +93,30 @@ def is_open_in(process: int, inode: int) -> bool:
 
 
 def draft_to_write(file: File) -> Draft:
-    """The draft of a file that somebody has open to write."""
+    """The draft of a file that somebody has open for writing."""
     assert file.draft
     return file.draft
 
 
 class Tree:
-    """The modes with which folders and files begin are such that others than who mounts see nothing, where others may look at all."""
+    """The modes of new folders and files are such that only the user who mounts sees anything, if others may look at all."""
 
     def __init__(self, image: Image, with_derived: bool = False, now: int | None = None, others: bool = False) -> None:
         self.image, self.user, self.group = image, os.getuid(), os.getgid()
         self.folder_mode, self.file_mode = (0o700, 0o600) if others else (0o755, 0o644)
         self.touched = now or time.time_ns()
-        # Whether others change the image too, so that each call has news to ask for.
+        # Whether others change the image too, so that each call must first ask for news.
         self.is_shared = image.program.is_shared
         self.kept_seconds = 0 if self.is_shared else KEPT_SECONDS
         root = Folder(ROOT_NUMBER, b"", ROOT, Shows.DERIVED if with_derived else Shows.GIVEN)
         root.lookups = 1
-        # By their numbers; and the folders by their paths, and the files by a path and the file.
+        # Nodes by number; folders by path, and files by path and file.
         self.nodes: dict[int, Node] = {ROOT_NUMBER: root}
         self.folders: dict[bytes, Folder] = {root.key: root}
         self.leaves: dict[tuple[bytes, File], Leaf] = {}
-        # How folders look, by their paths.
+        # The attributes of folders, by path.
         self.looks: dict[bytes, Looks] = {}
-        # Open files and open folders, by their numbers.
+        # Open files and open folders, by number.
         self.handles: dict[int, Handle] = {}
         self.shelves: dict[int, Shelf] = {}
         self.numbers = ROOT_NUMBER
@@ -128,20 +127,20 @@ class Tree:
         for number, file in enumerate(self.markers.values(), 1):
             file.number = -number
             self._begin(file, self.file_mode & ~0o222, self.user, self.group)
-        # Is told the number of each node whose attributes are others than those that were handed out.
+        # Called with the number of each node whose attributes differ from those that were returned.
         self.changed: Changed = lambda number: None
-        # The thread that asks, where it is known, and of each folder whose attributes were handed out since the last change the thread
-        # that has them. 0 is none that is known, or several.
+        # The thread that asks, if it is known; and for each folder whose attributes were returned since the last change, the thread that has them. 0
+        # means unknown, or several.
         self.asker = 0
         self.handed: dict[int, int] = {}
-        # Whether something that was written is not in the image, and nobody was told by an error.
+        # Whether something that was written is not in the image, and no error was returned for it.
         self.has_lost = False
 
     def _begin(self, file: File, mode: int, user: int, group: int) -> None:
         file.looks = Looks(mode, user, group, self.touched)
 
     def catch_up(self) -> None:
-        """Takes in what other clients of a served image have changed. The kernel keeps no attributes then, and opens a file anew."""
+        """Applies what other clients of a served image have changed. The kernel keeps no attributes then, and reads a file again when it opens it."""
         news = self.image.catch_up()
         if not news:
             return
@@ -222,13 +221,13 @@ class Tree:
         return self.markers.get(file.name) is file
 
     def _is_folder(self, folder: Folder, name: bytes) -> bool:
-        """Whether a folder opens under this name: a formula of words that are known, or a value of a declared head."""
+        """Whether a folder opens under this name: a formula of known words, or a value of a declared head."""
         if folder.shows_all:
             return False
         if name in (ALL, BY) or name in self.image.declared:
             return True
         if FILE_NAME.fullmatch(name):
-            # A plain word that is not declared, or none.
+            # A plain word that is not declared, or no word.
             return False
         try:
             read = part(name)
@@ -252,11 +251,12 @@ class Tree:
         modified = looks.modified if draft is None or draft.modified is None else draft.modified
         found = Attributes(node.inode, size, -(-size // BLOCK_LEN) * 8, looks.accessed, modified, max(looks.changed, modified),
                            stat.S_IFREG | looks.mode, 0 if file.is_gone else LINKS, looks.user, looks.group)
-        # What writers at other paths do to a draft is not told write by write.
+        # Writes to a draft at other paths are not reported one by one.
         return Entry(node.number, found, self.kept_seconds if draft is None or draft.writers == node.writers else 0)
 
     def _looks_of(self, node: Node) -> Looks:
-        """Of a file, or of a folder, whose time may be set, and is another one with the next change: any may be one of what it shows."""
+        """The attributes of a file or a folder. The time of a folder may be set, and changes with the next change of the image: each change may be of
+        something that it shows."""
         if isinstance(node, Leaf):
             return node.file.looks
         looks = self.looks.get(node.key) or Looks(self.folder_mode, self.user, self.group, self.touched)
@@ -265,7 +265,7 @@ class Tree:
         return looks
 
     def _draft_of(self, node: Leaf) -> Draft | None:
-        """The draft as far as it is seen at this path."""
+        """The draft, if it is seen at this path."""
         return node.file.draft if node.writers else None
 
     @answering
@@ -301,14 +301,14 @@ class Tree:
         return self._entry(node)
 
     def _tell(self, file: File, but: Node | None = None) -> None:
-        """The kernel knows itself what it did at one path, and is told of the others."""
+        """The kernel knows what it did at one path, and is notified of the others."""
         for node in file.nodes:
             if node is not but:
                 self.changed(node.number)
 
     def _now_changed(self, folder: Folder | None = None) -> None:
-        """What folders show is something else, in any of them. Of the one in which a call makes or removes a name the kernel knows it by
-        itself, from the answer on. An older answer that another thread has not taken in yet would then count as a newer one."""
+        """Any folder may show something else now. The kernel knows by the answer about the folder in which a call makes or removes a name. There, a
+        notification would be harmful: an older answer that another thread has not read yet would then count as a newer one."""
         self.touched = time.time_ns()
         kept: dict[int, int] = {}
         for number, asker in self.handed.items():
@@ -333,7 +333,7 @@ class Tree:
 
     @answering
     def readdir(self, handle: int, offset: int) -> list[Listed]:
-        """All entries. From the beginning they are made anew, and later ones are of that list, whatever is removed meanwhile."""
+        """All entries. A read from the beginning makes the list again, and later ones use that list, whatever is removed meanwhile."""
         shelf = self.shelves[handle]
         if not offset or not shelf.entries:
             shelf.entries = self._entries(shelf.folder)
@@ -354,7 +354,7 @@ class Tree:
 
     @answering
     def fsyncdir(self) -> None:
-        """What a folder shows is in the image then, also a new file that somebody is about to write."""
+        """After this, what a folder shows is in the image, even a new file that is about to be written."""
         self.image.settle()
 
     @answering
@@ -382,7 +382,7 @@ class Tree:
         self.image.take_back(name, folder.place)
         path = folder.key + b"/" + name
         self.looks.pop(path, None)
-        # To the kernel this node is dead, and a folder that opens at its path again is another one.
+        # For the kernel this node is dead, and a folder that opens at its path later is another one.
         self.folders.pop(path, None)
         self._now_changed()
 
@@ -436,7 +436,7 @@ class Tree:
         return file
 
     def _kept(self, file: File) -> bytes:
-        """What somebody who has the file open may still read of it when it is gone."""
+        """The bytes that a program with the file open may still read when it is gone."""
         return self.image.content(file) if file.handles else b""
 
     def _is_gone(self, file: File, kept: bytes, folder: Folder | None = None) -> None:
@@ -460,7 +460,7 @@ class Tree:
         self._tell(file)
 
     def _replace(self, file: File, other: File) -> None:
-        """The other file gets the bytes, as far as they were written, and keeps its words. Who has this one open goes on with them."""
+        """The other file gets the bytes, as far as they were written, and keeps its words. Programs that have this one open go on with it."""
         draft, kept = file.draft, self._kept(other)
         content = bytes(draft.content) if draft and draft.content is not None else self.image.content(file)
         self.image.replace(file, content, other)
@@ -469,7 +469,7 @@ class Tree:
             self._is_stored(file, draft, None)
 
     def _move(self, file: File, place: Place, target: Folder, new: bytes) -> None:
-        """A stop between the two commands that this may take leaves the file with its new name, where it was."""
+        """If it is stopped between the two commands that this may need, the file is where it was, with its new name."""
         old, before, behind = file.name, place.words, target.place.words
         has_words = before is not None and behind is not None
         is_elsewhere = place.text != target.place.text and not (has_words and set(before or ()) == set(behind or ()))
@@ -488,7 +488,7 @@ class Tree:
 
     @answering
     def link(self, number: int, target_number: int, name: bytes) -> Entry:
-        """A second folder of a file is more words."""
+        """A second link of a file gives it more words."""
         file, target = self._node_of_file(number).file, self._folder(target_number)
         if name != file.name or self._is_marker(file):
             raise fault(errno.EPERM, "a file has one name")
@@ -529,7 +529,7 @@ class Tree:
             file.draft.writers += 1
             node.writers += 1
             if file.draft.writers != node.writers:
-                # It is seen here from now on, and written at two paths.
+                # The draft is seen here from now on, and written at two paths.
                 self._tell(file)
             if flags & os.O_TRUNC:
                 self._empty(node)
@@ -544,7 +544,7 @@ class Tree:
             draft.is_emptied = not was_dirty
             self._is_written(node)
         else:
-            # Nothing to store, and a time that programs look at.
+            # There is nothing to store, but programs look at the time.
             file.looks.modified = time.time_ns()
             self._tell(file)
 
@@ -555,14 +555,14 @@ class Tree:
                 self.changed(other.number)
 
     def _must_be_made(self, file: File) -> None:
-        """Raises what kept a new file from being made. Nothing of it is kept, so that no call may say so."""
+        """Raises the refusal of a new file. Nothing of it is stored, so no call may report success."""
         if file.refusal:
             if file.draft:
                 file.draft.is_refused = True
             raise file.refusal
 
     def _must_be_here(self, file: File) -> None:
-        """Raises also that another client has removed the file."""
+        """Raises also if another client has removed the file."""
         self._must_be_made(file)
         if file.is_lost:
             if file.draft:
@@ -578,11 +578,11 @@ class Tree:
         return self._stored(file)
 
     def _stored(self, file: File) -> bytes:
-        """The bytes of a file without what is written to it and not stored. A marker has none."""
+        """The bytes of a file without what was written to it and not stored. A marker has none."""
         return file.kept if file.is_gone or self._is_marker(file) else self.image.content(file)
 
     def _drafted(self, file: File, draft: Draft) -> bytearray:
-        """The bytes that are written to."""
+        """The bytes of the draft."""
         self._must_be_here(file)
         if draft.content is None:
             draft.content = bytearray(self._stored(file))
@@ -612,8 +612,7 @@ class Tree:
             raise fault(errno.EFBIG, "a file has at most so many bytes")
 
     def _resize(self, node: Node, size: int, handle: int | None) -> None:
-        """Through an open file the draft changes, as by a write. By its path the file is changed in the image at once, with what was
-        written to it."""
+        """Through an open file the draft changes, as by a write. By a path the file is changed in the image at once, with what was written to it."""
         if not isinstance(node, Leaf):
             raise fault(errno.EISDIR, "a folder")
         self._may_change(node.file)
@@ -626,7 +625,7 @@ class Tree:
             self._cut(node, size)
             self._commit(node, draft_to_write(node.file))
         finally:
-            # A draft of its own is dropped where it was refused.
+            # If it was refused, a draft without other writers is dropped.
             self._end_writing(temporary)
 
     def _cut(self, node: Leaf, size: int) -> None:
@@ -641,8 +640,8 @@ class Tree:
 
     @answering
     def flush(self, handle: int, process: int) -> None:
-        """Somebody closes the file. A shell opens the file of `> x`, makes it the output of what it runs, and closes the first of the two,
-        before a byte is written: that is no end of the writing."""
+        """A program closes the file. A shell opens the file of `> x`, makes it the output of the command, and closes the first descriptor before a
+        byte is written: that does not end the writing."""
         closed = self.handles[handle]
         self._must_be_made(closed.file)
         if not closed.writes:
@@ -653,7 +652,7 @@ class Tree:
             self._commit(closed.node, draft)
 
     def _is_unstored(self, file: File, draft: Draft) -> bool:
-        """Whether it has other bytes than in the image, or isn't there yet."""
+        """Whether its bytes differ from those in the image, or it isn't there yet."""
         return draft.is_dirty or file is self.image.waiting
 
     @answering
@@ -665,7 +664,7 @@ class Tree:
             self._commit(node, draft)
 
     def _commit(self, node: Leaf, draft: Draft) -> None:
-        """Stores the draft whole. Where it is refused it stays, and can be tried again."""
+        """Stores the draft whole. If it is refused it stays, and can be tried again."""
         file = node.file
         self._must_be_here(file)
         if not file.is_gone:
@@ -684,7 +683,7 @@ class Tree:
 
     @answering
     def release(self, handle: int) -> None:
-        """Nobody has this handle any more."""
+        """The handle is closed for the last time."""
         self._end_writing(self.handles.pop(handle))
 
     def _end_writing(self, handle: Handle) -> None:
@@ -701,7 +700,7 @@ class Tree:
                 self.changed(node.number)
             return
         try:
-            # What was written through memory, behind the last close. What a close was refused is dropped: its caller was told.
+            # What was written through a mapping after the last close. What was refused at a close is dropped: the caller got the error.
             if self._is_unstored(file, draft) and not draft.is_refused:
                 self._commit(node, draft)
         except (Refused, OSError) as error:
@@ -719,7 +718,7 @@ class Tree:
         say(f"mount: {file.name.decode()}: {why}")
 
     def finish(self) -> None:
-        """Stores what was written and not closed, when nobody asks any more, as a close would. Tells each file that can't be stored."""
+        """Stores what was written and not closed, as a close would, when there are no more requests. Reports each file that can't be stored."""
         self.changed = lambda number: None
         written = {handle.file: handle.node for handle in self.handles.values() if handle.writes}
         for file, node in written.items():

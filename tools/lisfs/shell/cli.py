@@ -37,9 +37,9 @@ STOPPED = 130
 
 
 def run(image: str, screen: Screen) -> int:
-    """The status."""
+    """Runs the shell, and returns the status."""
     program, dump = opened("shell", image)
-    # Ctrl-C is for the shell alone, and the program comes to its end.
+    # Ctrl-C is for the shell alone, and the program finishes.
     with program:
         session = Session(program, dump, limits_of(image), screen.interrupts.ask)
         earlier = Earlier(image, session)
@@ -55,13 +55,13 @@ def run(image: str, screen: Screen) -> int:
             earlier.keep()
             return 0
         except NotAReply:
-            # No later reply can be told.
+            # No later reply can be recognized.
             program.kill()
             raise
 
 
 def cause_of(end: Ended) -> str:
-    """Why the program has ended."""
+    """The message for the end of the program."""
     if end.status < 0:
         return f"the program was killed by signal {-end.status}; what was replied to is kept"
     return ": ".join(end.text.splitlines()) or f"the program has ended with {end.status}; what was replied to is kept"
@@ -91,7 +91,7 @@ def main() -> int:
         others = "another `tools/shell` or `tools/mount`"
         status, cause = status_of(end), f"{shown}: another program has it open, as {others}: end that first; `tools/serve` lets several have it"
     except Ended as end:
-        # Ctrl-C ends what reads the image at the beginning.
+        # Ctrl-C ends the reading of the image at the start.
         status, cause = (STOPPED, "stopped") if screen.interrupts.has_come else (status_of(end), cause_of(end))
     except NotAReply as error:
         status, cause = 1, f"the program does not reply as lisfs does: {error}"

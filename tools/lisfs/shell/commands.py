@@ -1,4 +1,4 @@
-"""The commands: how each is said, what it does, and where it is refused. `help` tells it."""
+"""The commands: the syntax of each, what it does, and when it is refused, as `help` prints it."""
 import enum
 import re
 import textwrap
@@ -11,15 +11,15 @@ from lisfs.constants import (
 from lisfs.refusals import meaning
 from lisfs.shell.undoing import UNDOABLE
 
-# So many words of a head a listing shows on a terminal, and so many files are changed at once before somebody is asked.
+# How many words of a head a listing shows on a terminal, and how many files are changed at once without a question.
 SOME, ASKED = 20, 20
-# A line of `tag` and `untag` may name all files of an image, and as many words as a file is given. The shell makes commands of it.
+# A line of `tag` and `untag` may name all files of an image, and as many words as a file is given. The shell turns it into commands.
 LONGEST = (1 + MAX_FILES + MAX_ASSIGNED) * (MAX_WORD + 1)
 
 
 class Part(enum.Enum):
-    """What a word of a line is: a word that is new, declared or known, or that a file can be given; a file that is new, or here, or such a
-    file or word; a formula; a count of bytes; a path of the system; any text; a command."""
+    """The kind of a word of a line: a word that is new, declared or known, or that a file can be given; a file that is new, or here, or such a file
+    or word; a formula; a count of bytes; a path of the system; any text; a command."""
 
     NEW_WORD = "new word"
     DECLARED = "declared"
@@ -41,8 +41,8 @@ FILES = (Part.NEW_FILE, Part.FILE)
 
 
 class Command(NamedTuple):
-    """`parts` are what the words behind the command are, of which the first `needed` must stand; the last one may be repeated where `repeats`.
-    `refusals` are the numbers, in the order in which the program looks, or of the shell's own commands those that it hands on."""
+    """`parts` are the kinds of the words after the command. The first `needed` of them are required; the last one may be repeated if `repeats`.
+    `refusals` are the numbers, in the order in which the program checks, or for the shell's own commands those that it passes on."""
 
     form: str
     does: str
@@ -54,7 +54,7 @@ class Command(NamedTuple):
 
     @property
     def flags(self) -> list[bytes]:
-        """What may stand before the parts."""
+        """The options that may come before the parts."""
         return [flag.encode() for flag in re.findall(r"\[(-\w)\]", self.form)]
 
 
@@ -66,7 +66,7 @@ def command(form: str, does: str, *parts: Part, needed: int | None = None, repea
 CREATES = (NAME_TAKEN, NOT_A_PLACE, BUILT_IN, NOT_ASSIGNABLE, UNKNOWN_PROPERTY, TOO_MANY_ASSIGNED, NO_FILE_ROOM, LARGE_DESCRIPTION, NO_PROPERTY_ROOM)
 TAGS = (NO_FILE_HERE, BUILT_IN, NOT_ASSIGNABLE, UNKNOWN_PROPERTY, TOO_MANY_ASSIGNED, LARGE_DESCRIPTION, NO_PROPERTY_ROOM)
 RULE = "What is the name of a file of this place is a file, and anything else is a word, in any order. "
-# Where a formula leads nowhere.
+# The refusals of a formula that leads nowhere.
 LEADS = (BAD_FORMULA, LARGE_FORMULA, UNKNOWN_PROPERTY)
 COMMANDS = {
     "ls": command("ls [-a] [-c] [PLACE]", "lists words that narrow the place, and other files", Part.FORMULA, needed=0,
@@ -140,23 +140,23 @@ COMMANDS = {
     "exit": command("exit", "ends, as Ctrl-D does"),
     "quit": command("quit", "ends, as Ctrl-D does"),
 }
-# Those that the program does not know.
+# Commands that the program does not know.
 OWN = ("find", "grep", "less", "put", "get", "tag", "untag", "undo", "help", "exit", "quit")
 
 
 def most_of_line(command: bytes) -> int:
-    """How many bytes a line of a command has at most."""
+    """The most bytes of a line of a command."""
     return LONGEST if command in (b"tag", b"untag") else MAX_LINE
 
 
 def all_in_lines() -> list[str]:
-    """All commands, one a line."""
+    """All commands, one per line."""
     width = max(len(command.form) for command in COMMANDS.values())
     return [f"{command.form:{width}}  {command.does}" for command in COMMANDS.values()]
 
 
 def told(name: str) -> list[str]:
-    """What there is to know of a command."""
+    """The help text of a command."""
     command = COMMANDS[name]
     lines = [f"{command.form}: {command.does}."] + textwrap.wrap(command.more, WIDTH)
     refused = [f"- {meaning(number, name)}" for number in command.refusals]

@@ -1,4 +1,4 @@
-"""What Tab makes of a line: commands, the words that the place offers and others that are known, files of the place, and paths of the system."""
+"""What Tab completes: commands, the words that the place offers and others that are known, files of the place, and paths of the system."""
 import os
 import re
 from collections.abc import Iterable, Sequence
@@ -15,11 +15,11 @@ if HAS_READLINE:
     import readline
 
 BLANKS = b" \t\n"
-# The most of what may stand there that is shown.
+# The most candidates that are shown.
 SHOWN = 120
 # What follows `get in`, and `in` itself.
 GET_IN = (Part.TEXT, Part.FORMULA, Part.PATH)
-# A word of a line in which a backslash stands before a blank.
+# A word of a line, in which a backslash can precede a blank.
 PIECE = re.compile(rb"(?:\\.|[^\\ \t\n])*\\?", re.S)
 ESCAPED = re.compile(rb"([\\ \t\n'\"])")
 
@@ -36,7 +36,7 @@ def unescaped(piece: bytes) -> bytes:
 
 
 def pieces(line: bytes) -> list[Piece]:
-    """The words of a line with a backslash before some blanks. The last one is that which is being typed, and may be empty."""
+    """The words of a line, in which a backslash can precede a blank. The last one is being typed, and may be empty."""
     found: list[Piece] = []
     at = 0
     while True:
@@ -73,13 +73,13 @@ class Completer:
                     self.session.catch_up()
                     found = self.candidates(line[:readline.get_endidx()], readline.get_begidx())
                 except (Stopped, Ended, NotAReply, NotSent, OSError):
-                    # What it is the next command tells.
+                    # The next command says what it is.
                     found = []
             self.found = [os.fsdecode(one) for one in found]
         return self.found[state] if state < len(self.found) else None
 
     def show(self, begun: str, found: Sequence[str], _: int) -> None:
-        """Shows what may stand there, as far as a screen has room, and the line again. Of a formula or a path the last word is shown."""
+        """Shows the candidates that fit the screen, and the line again. For a formula or a path only the last word is shown."""
         at = max(map(begun.rfind, "/|!(")) + 1
         texts = [harmless(os.fsencode(one[at:].rstrip())) for one in found[:SHOWN]]
         lines = in_columns(texts, max(map(len, texts)) + 2) + ([f"and {len(found) - SHOWN:,} more"] if len(found) > SHOWN else [])
@@ -87,11 +87,11 @@ class Completer:
         self.screen.again(lines, line, len(os.fsencode(line)[readline.get_endidx():].decode(errors="replace")))
 
     def candidates(self, line: bytes, begin: int) -> list[bytes]:
-        """What may stand in place of the line's end from `begin` on, in byte order. The line ends where the cursor is."""
+        """What can replace the end of the line from `begin` on, in byte order. The line ends at the cursor."""
         typed = pieces(line)
         start, piece = typed[-1]
         found = self._whole(typed[:-1], piece)
-        # A word of the line in which a blank is escaped may begin before what is to be replaced.
+        # A word with an escaped blank may begin before the text to be replaced.
         return sorted({one[max(0, begin - start):] for one in found if one.startswith(piece)})
 
     def _whole(self, before: Sequence[Piece], piece: bytes) -> Iterable[bytes]:
@@ -124,7 +124,7 @@ class Completer:
         if part is Part.FILE_OR_WORD:
             return [name + b" " for name in self.session.names_here(piece)] + self._given(piece)
         if part is Part.NEW_FILE:
-            # That of the file that is taken in.
+            # The name of the file that is copied in.
             name = os.path.basename(unescaped(given[0])) if given else b""
             return [name + behind] if is_file_name(name) else []
         if part is Part.GIVEN:
@@ -137,12 +137,12 @@ class Completer:
         return [word + b" " for word in self._words(stem) if self.session.is_assignable(word)]
 
     def _words(self, stem: bytes, formula: bytes = b"") -> Iterable[bytes]:
-        """The words that a place offers, and with some of its letters any word that is known."""
+        """The words that a place offers, and after some letters any word that is known."""
         offered = self.session.offered(formula)
         return {*offered, *self.session.known()} if stem else offered
 
     def _formulas(self, text: bytes) -> list[bytes]:
-        """The last word of a formula. What the place offers to which the steps before it lead, those within parentheses not counted."""
+        """The last word of a formula: what is offered at the place to which the steps before it lead, without those in parentheses."""
         at = max(map(text.rfind, (b"/", b"|", b"!", b"("))) + 1
         base, stem, depth, step = text[:at], text[at:], 0, 0
         for k, byte in enumerate(base):
@@ -155,7 +155,7 @@ class Completer:
 
 
 def paths(piece: bytes, behind: bytes) -> list[bytes]:
-    """The paths of the system that begin so: each as it would be typed, a folder with a slash behind it."""
+    """The paths of the system that begin with a text: each as it would be typed, a folder with a slash after it."""
     folder, slash, stem = piece.rpartition(b"/")
     found = []
     try:

@@ -1,4 +1,4 @@
-"""The shell's own commands that copy files of the system in, and files of the image out."""
+"""The shell's own commands that copy files of the system into the image, and files of the image out."""
 from __future__ import annotations
 
 import contextlib
@@ -20,7 +20,7 @@ from lisfs.shell.terminal import Screen, Stopped
 from lisfs.showing import harmless
 from lisfs.words import NAME_FORM, is_file_name, is_word
 
-# So many names are shown of files that are there already.
+# How many names of existing files are shown.
 SHOWN = 5
 
 
@@ -50,7 +50,7 @@ class Copying:
         self.screen.lines([f"{harmless(name)}: {len(content):,} bytes{told}"])
 
     def judged(self, command: bytes, name: bytes, content: bytes, words: Sequence[bytes], call: Callable[[], None]) -> None:
-        """Calls a command with bytes. A refusal is raised as a sentence for its line."""
+        """Runs a command with bytes. A refusal is raised as a sentence for its line."""
         try:
             call()
         except Refused as refused:
@@ -94,7 +94,7 @@ class Copying:
         self.screen.lines([f"{harmless(path)}: {len(content):,} bytes"])
 
     def write_to(self, path: bytes, content: bytes) -> None:
-        """Writes a file of the system: a new one, or over an old one if somebody says yes."""
+        """Writes a file of the system: a new one, or over an old one if the person says yes."""
         if not os.path.lexists(path):
             write_new(path, content)
             return
@@ -116,7 +116,7 @@ class Copying:
             self.copy(files, folder, there)
 
     def ask_for(self, folder: bytes, there: Sequence[bytes], count: int) -> None:
-        """Asks, before anything is written, whether to write over the files that are there already. Raises `Failed` if not."""
+        """Asks, before anything is written, whether to overwrite existing files. Raises `Failed` if not."""
         for name in there:
             if not os.path.isfile(path := os.path.join(folder, name)):
                 raise Failed(f"{harmless(path)}: it is there already, and no plain file; nothing was copied")
@@ -127,7 +127,7 @@ class Copying:
             raise Failed(f"{text}; nothing was copied")
 
     def copy(self, files: Sequence[File], folder: bytes, over: Collection[bytes]) -> None:
-        """Copies files, those in `over` over old ones. At its end it says how many were copied, also if it fails half way."""
+        """Copies files; those in `over` overwrite existing ones. At its end it says how many were copied, even if it fails half way."""
         count, size, last = 0, 0, b""
         try:
             for file, content in self.session.contents(files):
@@ -140,13 +140,13 @@ class Copying:
         except (Failed, Stopped, Ended, NotAReply):
             self.screen.complain(f"{harmless(folder)}: {count:,} of {of_files(len(files))} copied" + (f", up to {said(last)}" if count else ""))
             raise
-        # Of a served image another client may have removed some meanwhile.
+        # If the image is served, another client may have removed some meanwhile.
         text = of_files(count) if count == len(files) else f"{count:,} of {of_files(len(files))}"
         self.screen.lines([f"{harmless(folder)}: {text} copied, {size:,} bytes"])
 
 
 def write_new(path: bytes, content: bytes) -> None:
-    """Writes a file of the system that is not there yet. If this fails half way, no file is left."""
+    """Writes a new file of the system. If this fails half way, no file is left."""
     try:
         with open(path, "xb") as file:
             file.write(content)
@@ -159,7 +159,7 @@ def write_new(path: bytes, content: bytes) -> None:
 
 
 def write_over(path: bytes, content: bytes) -> None:
-    """Writes over a file of the system, which has its old bytes until the new ones are complete."""
+    """Overwrites a file of the system, which keeps its old bytes until the new ones are complete."""
     # Few sessions need it.
     import tempfile
     path = os.path.realpath(path)

@@ -1,11 +1,11 @@
-"""The last change of an earlier shell, which `undo` of the next one finds in a file of the person who made it.
+"""The last change of an earlier shell, which `undo` of the next shell finds in a file of the person who made it.
 
-1. The file has the line of the change, what undoes it, and a digest of the state that the image was in at the end of that shell. It is written
-   at that end, whole or not at all.
+1. The file has the line of the change, what undoes it, and a digest of the image's state at the end of that shell. It is written at that end, whole
+   or not at all.
 2. A change is undone only if the image is in this state again, or still: the same declared words, axioms and files with their sizes and the words
-   that they were given, and of a file that would be removed the same bytes. Then nothing that somebody did since is lost, whoever it was.
-3. Bytes of files are not kept: what was removed or written over would lie outside of the image. Of such a change the file has the line alone.
-4. Of a served image nothing is kept, since others change it meanwhile.
+   that they were given, and the same bytes of a file that would be removed. So no later work is lost, whoever did it.
+3. Bytes of files are not kept: removed or overwritten bytes would be outside the image. For such a change the file has only the line.
+4. For a served image nothing is kept, since others change it meanwhile.
 """
 from __future__ import annotations
 
@@ -37,11 +37,11 @@ class NotUndone(Exception):
 class Earlier:
     def __init__(self, image: str, session: Session) -> None:
         self.image, self.session = image, session
-        # Whether the change was asked for and found.
+        # Whether the change was requested and found.
         self.is_taken = False
 
     def keep(self) -> None:
-        """Keeps the last change of this shell, if it has made one. Where the file can't be written there is none."""
+        """Keeps the last change of this shell, if it has made one. If the file can't be written, none is kept."""
         if self.session.program.is_shared or not self.session.changes:
             return
         with contextlib.suppress(OSError):
@@ -73,7 +73,7 @@ class Earlier:
         return os.path.join(state_folder(), f"undo-{digest(os.fsencode(os.path.realpath(self.image)))[:32]}.json")
 
     def _body(self) -> bytes | None:
-        """What the file has of the last change that is kept, or None if there is none."""
+        """The contents of the file for the last change that is kept, or None if there is none."""
         if not self.session.kept:
             return None
         change = self.session.kept[-1]
@@ -85,7 +85,7 @@ class Earlier:
         return json.dumps((FORM, text(change.line), state, [texts(command.words) for command in change.commands], retags)).encode()
 
     def _state(self, change: Change) -> str | None:
-        """A digest of the state of the image, as far as this change needs it; None if it can't be looked at from here."""
+        """A digest of the image's state, as far as this change needs it; None if it can't be read at this place."""
         session, removed = self.session, [command.words[1] for command in change.commands if command.words[0] == b"rm"]
         try:
             with session.away(ROOT):
@@ -97,7 +97,7 @@ class Earlier:
 
 
 def digest(data: bytes) -> str:
-    # OpenSSL takes a while to load, and most sessions change nothing.
+    # OpenSSL is slow to load, and most sessions change nothing.
     import hashlib
     return hashlib.sha256(data).hexdigest()
 

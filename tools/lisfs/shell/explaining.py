@@ -1,7 +1,7 @@
-"""What the program refuses, in a sentence for a person, with the word or the name that is meant.
+"""Refusals of the program, as a sentence for a person, with the word or the name that each is about.
 
-The program tells a number. Which of several words is meant is found out here, by what is known of the image and by asking the program; where
-it can't be, the sentence names the line's own words.
+The program returns a number. Which of several words it is about is found out here, from what is known of the image and by asking the program; if that
+is impossible, the sentence names the words of the line.
 """
 import difflib
 import shlex
@@ -23,14 +23,14 @@ class Failed(Exception):
     """What is wrong with a line, in a sentence."""
 
 
-# The words behind a command.
+# The words after a command.
 Words: TypeAlias = list[bytes]
-# A sentence for a command, its words and the session.
+# Makes a sentence from a command, its words and the session.
 Explanation: TypeAlias = Callable[[str, Words, Session], str]
 
 
 def said(*words: bytes) -> str:
-    """Words of a line, as they are named in a sentence."""
+    """Words of a line, as a sentence names them."""
     return ", ".join(map(harmless, words))
 
 
@@ -45,7 +45,7 @@ def meant(word: bytes, among: Iterable[bytes]) -> str:
 
 
 def values_meant(words: Sequence[bytes], session: Session) -> str:
-    """A question for the words that may have been meant: those that begin as a value does, or else one that is near."""
+    """A question for the words that may have been meant: those that begin as a value does, or else a similar one."""
     for word in filter(head_of, words):
         if found := session.beginning(word):
             named = ", ".join(f"`{harmless(value)}`" for value in found[:MEANT])
@@ -54,11 +54,11 @@ def values_meant(words: Sequence[bytes], session: Session) -> str:
 
 
 def sentence(refused: Refused, line: bytes, session: Session) -> str:
-    """What a refusal of a line means. Where the session has ended, `Ended` may be raised."""
+    """What a refusal of a line means. If the session has ended, `Ended` may be raised."""
     words = words_of(line)
     command, given = words[0].decode(errors="replace"), words[1:]
     explain = SENTENCES.get(refused.number)
-    # A number that is not known here is one of a later program.
+    # A number that is not known here is that of a later program.
     return explain(command, given, session) if explain else f"{harmless(line)}: {refused.words}"
 
 
@@ -82,11 +82,11 @@ def bad_line(command: str, given: Words, _: object) -> str:
 
 
 def with_blanks(command: str, given: Words, at: int, after: int = 0) -> str | None:
-    """A sentence for a line whose formula begins at word `at` and has blanks, and has `after` words after it; None if its words make no formula."""
+    """A sentence for a line whose formula begins at word `at` and has blanks, followed by `after` more words; None if its words make no formula."""
     end = len(given) - after
     first, last = ([shlex.quote(harmless(word)) for word in words] for words in (given[:at], given[end:]))
     hint = without_blanks(given[at:end], " ".join([command, *first, ""]), " ".join(["", *last]))
-    # In a line of `grep` the text may be what has blanks.
+    # In a line of `grep` it may be the text that has blanks.
     return hint and f"{command}: {'a text with blanks needs quotes; ' if command == 'grep' else ''}{hint}"
 
 
@@ -135,7 +135,7 @@ def unknown(command: str, given: Words, session: Session) -> str:
 
 
 def words_given(command: str, given: Words) -> Words:
-    """The words of a line that a file is to be given."""
+    """The words of a line that a file would be given."""
     return words_in(given[1]) if command == "mv" else given[2:] if command == "add" else given[1:]
 
 
@@ -217,7 +217,7 @@ def too_many_had(command: str, given: Words, session: Session) -> str:
 
 def file_too_large(command: str, given: Words, session: Session) -> str:
     count = int(given[1])
-    # Of more than a line can count there is no number.
+    # A count that is too large for a line has no number.
     many = f"{count:,}" if count <= MAX_PAYLOAD else f"more than {MAX_PAYLOAD:,}"
     return f"{said(*given[:1])}: it has {many} bytes, and a file of this image at most {session.limits.file_bytes:,}"
 

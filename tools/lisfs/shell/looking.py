@@ -16,13 +16,13 @@ from lisfs.shell.terminal import WORD as WORD_COLOUR
 from lisfs.shell.terminal import Screen, as_text, in_columns
 from lisfs.showing import harmless
 
-# So many characters of a line that was found are shown on a terminal.
+# How many characters of a matching line are shown on a terminal.
 LONGEST = 500
 
 
 @contextlib.contextmanager
 def elsewhere(session: Session, screen: Screen, command: str, formula: bytes | None) -> Iterator[None]:
-    """At the place to which a formula leads, or here."""
+    """Runs the block at the place to which a formula leads, or here."""
     try:
         with contextlib.ExitStack() as stack:
             if formula is not None:
@@ -32,14 +32,14 @@ def elsewhere(session: Session, screen: Screen, command: str, formula: bytes | N
         raise Failed(f"{command}: there is no way back to this place, which is too long or has a word that nothing has any more: "
                      "say a formula that goes on from here, or `cd` elsewhere first") from None
     except NotSent:
-        # It has a blank, or no bytes at all.
+        # It has a blank, or is empty.
         raise Failed(no_formula(command, [formula or b""], session)) from None
     except Refused as refused:
         raise Failed(sentence(refused, b"cd %b" % (formula or b"/"), session)) from None
 
 
 def go(session: Session, screen: Screen, formula: bytes, call: Callable[[bytes], object]) -> None:
-    """Goes to the place of a formula by a call. If no file has a word on one side of `|`, that side is left out, and a line says so."""
+    """Goes to the place of a formula by a function. If no file has a word on one side of `|`, that side is left out, and a line says so."""
     try:
         call(formula)
     except Refused as refused:
@@ -143,7 +143,7 @@ def indented(texts: Sequence[str]) -> list[str]:
 
 
 def matches(name: bytes, content: bytes, text: bytes, is_small: bool) -> list[bytes]:
-    """The lines of a file that have a text, as they are shown. With `is_small` small and large letters are the same."""
+    """The lines of a file that contain a text, as they are shown. With `is_small` case is ignored."""
     def simple(data: bytes) -> bytes:
         return data.lower() if is_small else data
 

@@ -1,4 +1,4 @@
-"""Carries out the lines of somebody at a terminal, or of a script: those of the program, and those that the shell has of its own."""
+"""Runs the lines of a person at a terminal, or of a script: those of the program, and those of the shell itself."""
 import os
 from collections.abc import Callable, Iterator, Sequence
 
@@ -21,7 +21,7 @@ PIECE = 65_536
 
 
 class Over(Exception):
-    """No more lines are wanted."""
+    """No more lines are read."""
 
 
 class Shell:
@@ -37,7 +37,7 @@ class Shell:
     # Lines.
 
     def carry_out(self, line: bytes, payload: bytes = b"") -> None:
-        """Raises `Failed` where it is refused or something is amiss, `Stopped` at Ctrl-C, and `Over` where it is the last one."""
+        """Raises `Failed` if a line is refused or something is wrong, `Stopped` at Ctrl-C, and `Over` after the last line."""
         words = words_of(line)
         if not words:
             return
@@ -60,7 +60,7 @@ class Shell:
         if words[0] == b"ls" and is_short and (len(words) > 1 or self.screen.asks):
             self.looking.ls(words[1:])
         elif words[0] == b"cd" and len(words) == 2 and is_short and self.screen.asks:
-            # In a script it is that of the program.
+            # In a script `cd` is the program's.
             self.looking.cd(line, words[1])
         elif words[0] in self.own and is_short:
             self.own[words[0]](line, words[1:])
@@ -88,9 +88,9 @@ class Shell:
             self.screen.note(f"{harmless(name)}: {limit}")
 
     def tell_misses(self, words: Sequence[bytes]) -> None:
-        """Once, that a search can miss a file whose words are cut, also where it finds none."""
+        """Says once that a search can miss a file whose words are cut, even if it finds none."""
         searched = words_in(formula_of(words)) if not self.has_told_misses else []
-        # Only a word that bytes give makes it worth to look at all files.
+        # Only if a word comes from bytes, it is worth looking at all files.
         files = self.session.described() if any(head_of(word) in derived.HEADS for word in searched) else self.session.index.files.values()
         cut = derived.told_of_misses(searched, ((file.name, file.words) for file in files))
         left_out = derived.told_of_left_out(filter(self.session.is_assignable, searched), ((file.given, file.words) for file in files))
@@ -131,7 +131,7 @@ def formula_of(words: Sequence[bytes]) -> bytes:
 
 
 def at_a_prompt(shell: Shell, history: History) -> None:
-    """Goes on until Ctrl-D, `exit` or `quit`."""
+    """Runs until Ctrl-D, `exit` or `quit`."""
     while True:
         try:
             text = shell.screen.typed(shell.screen.prompt(shell.session.place))
@@ -143,7 +143,7 @@ def at_a_prompt(shell: Shell, history: History) -> None:
             shell.screen.lines([""])
             continue
         try:
-            # What was pasted may be several lines.
+            # Pasted text may be several lines.
             for line in text.split(b"\n"):
                 history.add(line)
                 words = words_of(line)
@@ -165,7 +165,7 @@ def from_input() -> bytes:
 
 
 def commands(read: Callable[[], bytes], interrupts: Interrupts) -> Iterator[Item | None]:
-    """The commands of what is read, each a line without its line feed and the bytes behind it, and at last `None` where these are cut off."""
+    """The commands of the input, each a line without its line feed and the bytes after it, and `None` at the end if these are cut off."""
     items = Items(MAX_LINE, LONGEST)
     data: bytes | None = None
     # A last line, and last bytes, may lack their line feed.
@@ -183,7 +183,7 @@ def commands(read: Callable[[], bytes], interrupts: Interrupts) -> Iterator[Item
 
 
 def as_a_script(shell: Shell, read: Callable[[], bytes] = from_input) -> bool:
-    """Carries out the lines that are read, with bytes behind them as `lisfs run` takes them. Whether none was refused."""
+    """Runs the lines of the input, with bytes after them as `lisfs run` reads them. Returns whether none was refused."""
     is_fine = True
     for taken in commands(read, shell.interrupts):
         try:

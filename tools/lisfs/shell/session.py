@@ -1,8 +1,8 @@
-"""An open image as somebody goes about in it: the session that runs over it, its place, and which files and words there are.
+"""An open image as a person works in it: the session that runs over it, its place, and which files and words there are.
 
-Which files the image has, and which words they were given, is known from its dump, and from then on by the commands that were run. All words
-of a file are in the index that the tools share: `props` says them again after each change. So which files are at a place is looked up there,
-by the text in which the program prints the place. Each change is kept with what undoes it.
+Which files the image has, and which words they were given, is known from its dump, and later from the commands that ran. All words of a file are in
+the index that the tools share: `props` returns them again after each change. So the files of a place are looked up there, by the program's text of
+the place. Each change is kept with what undoes it.
 """
 import collections
 import contextlib
@@ -24,14 +24,14 @@ if TYPE_CHECKING:
     from lisfs.served import News
 
 ROOT = b"/"
-# So many commands are sent before the first reply is received, and so many bytes are asked for.
+# How many commands are sent before the first reply is received, and how many bytes are requested.
 AHEAD, AHEAD_BYTES = 128, 4_194_304
 # Commands that change nothing.
 LOOKS = (b"pwd", b"ls", b"cat", b"props", b"way", b"stat")
 
 
 class NoWayBack(Exception):
-    """The place could not be come back to, so that it is not left."""
+    """The place could not be reached again, so it is not left."""
 
 
 class NothingKept(Exception):
@@ -53,7 +53,7 @@ class Counted(NamedTuple):
 
 
 class Where(NamedTuple):
-    """A place as it was after so many changes, and a formula that leads on from there."""
+    """A place as it was after a number of changes, and a formula that leads on from there."""
 
     place: bytes
     changes: int
@@ -68,7 +68,7 @@ class Offered(NamedTuple):
 
 
 class Session(Following[File]):
-    """`ask_stop` is called now and then in the middle of longer work, and may raise an error that ends it."""
+    """`ask_stop` is called at times during longer work, and may raise an error that ends it."""
 
     def __init__(self, program: Program, dump: Dump, limits: Limits, ask_stop: Callable[[], None] = lambda: None) -> None:
         self.program, self.limits, self.ask_stop = program, limits, ask_stop
@@ -80,13 +80,13 @@ class Session(Following[File]):
         # How many changes there were, and the files whose words were not asked for since they changed.
         self.changes, self._stale = 0, set(self.index.files.values())
         self._offered: Offered | None = None
-        # The last changes, the last one at the end.
+        # The last changes, the latest last.
         self.kept: collections.deque[Change] = collections.deque(maxlen=UNDOABLE)
 
     # Commands.
 
     def carry_out(self, line: bytes, payload: bytes = b"") -> Reply:
-        """Has a command carried out as it is written, with the bytes behind it, and notes what it does. Raises `Refused`."""
+        """Runs a command as it is written, with the bytes after it, and notes what it does. Raises `Refused`."""
         words = words_of(line)
         change = self._undoing(line, words)
         self.program.send_bytes(line + b"\n", payload)
@@ -95,7 +95,7 @@ class Session(Following[File]):
         return reply
 
     def add(self, line: bytes, name: bytes, content: bytes, *words: bytes) -> None:
-        """`line` is how it was said."""
+        """Adds a file. `line` is how the command was typed."""
         self._run(line, (b"add", name, b"%d" % len(content), *words), content)
 
     def write(self, line: bytes, name: bytes, content: bytes) -> None:
@@ -111,20 +111,20 @@ class Session(Following[File]):
         return found
 
     def undo(self, go_on: GoOn) -> bytes:
-        """Undoes the last change that is kept. The line that made it. Of a change that is refused, or stopped, the rest is still kept."""
+        """Undoes the last change that is kept. Returns the line that made it. If it is refused, or stopped, the rest of the change is still kept."""
         if not self.kept:
             raise NothingKept
         with self.at_the_root():
             change = self.kept.pop()
             while change.commands or change.retags:
-                # What is raised leaves the rest of it there.
+                # If an error is raised, the rest of the change is kept here.
                 self.kept.append(change)
                 change = self._undo_part(change, go_on)
                 self.kept.pop()
         return change.line
 
     def _undo_part(self, change: Change, go_on: GoOn) -> Change:
-        """Undoes a command of a change, or all words. What is left of it."""
+        """Undoes a command of a change, or all words. Returns what is left of it."""
         if change.commands:
             words, payload = change.commands[0]
             self.program.ask(*words, payload=payload)
@@ -244,8 +244,8 @@ class Session(Following[File]):
 
     @contextlib.contextmanager
     def away(self, formula: bytes) -> Iterator[None]:
-        """Goes to a place, and behind the block back to this one, however it ends. Raises `Refused` where the program does not go there, and
-        `NoWayBack` where it would not come back: this place then has a word that nothing has any more, or is too long for a line."""
+        """Goes to a place, and after the block back to this one, however the block ends. Raises `Refused` if the program does not go there, and
+        `NoWayBack` if it could not come back: this place then has a word that nothing has any more, or is too long for a line."""
         here, is_onward = self.place, not formula.startswith(b"/") and formula != b".."
         way_back = here if here == ROOT else b"/" + here
         if not is_onward:
@@ -262,7 +262,7 @@ class Session(Following[File]):
         finally:
             self.place = here
             if is_onward:
-                # Its steps stand behind those of this place. No two places print alike.
+                # The new steps follow those of this place. No two places print alike.
                 while self._asked_place() != here:
                     self.program.cd(b"..")
             else:
@@ -270,8 +270,8 @@ class Session(Following[File]):
 
     @contextlib.contextmanager
     def at_the_root(self) -> Iterator[None]:
-        """Goes to the root for changes, and behind the block back to this place; it stays there if the place has a word that nothing has any
-        more. Raises `NoWayBack` if the place is too long for a line."""
+        """Goes to the root for changes, and after the block back to this place; it stays there if the place has a word that nothing has any more.
+        Raises `NoWayBack` if the place is too long for a line."""
         here, way_back = self.place, self.place if self.place == ROOT else b"/" + self.place
         if len(b"cd " + way_back) > self.program.longest:
             raise NoWayBack
@@ -292,7 +292,7 @@ class Session(Following[File]):
         return self.index.files.keys()
 
     def _refresh(self) -> None:
-        """Asks for the words of the files that were changed; where there is no way back from the root, of those at this place alone."""
+        """Asks for the words of the files that were changed; if there is no way back from the root, only for those at this place."""
         if self._stale:
             with contextlib.ExitStack() as stack:
                 if self.place != ROOT:
@@ -306,7 +306,7 @@ class Session(Following[File]):
             some = files[at:at + AHEAD]
             for file in some:
                 self.program.send(b"props", file.name)
-            # All of them are received before anybody else can send something.
+            # All of them are received before anything else can be sent.
             for file, words in [(file, self._received_words()) for file in some]:
                 if words is not None:
                     self.index.describe(file, words)
@@ -334,14 +334,14 @@ class Session(Following[File]):
         return self.index.of(self.row())
 
     def contents(self, files: Iterable[File]) -> Iterator[tuple[File, bytes]]:
-        """Files of the place with their bytes, many asked for at once; without those that another client has just removed."""
+        """Files of the place with their bytes, many requested at once; without those that another client has just removed."""
         some: list[File] = []
         for file in (*files, None):
             if some and (file is None or len(some) == AHEAD or sum(one.size for one in some) > AHEAD_BYTES):
                 self.ask_stop()
                 for one in some:
                     self.program.send(b"cat", one.name)
-                # All of them are received before anybody else can send something.
+                # All of them are received before anything else can be sent.
                 received = [(one, self._received_content()) for one in some]
                 yield from ((one, content) for one, content in received if content is not None)
                 some = []
@@ -357,7 +357,7 @@ class Session(Following[File]):
             raise
 
     def names_here(self, beginning: bytes = b"") -> list[bytes]:
-        """The names of the files of the place that begin so."""
+        """The names of the files of the place that begin with a text."""
         return [file.name for file in self.files() if file.name.startswith(beginning)]
 
     def is_here(self, name: bytes) -> bool:
@@ -381,7 +381,7 @@ class Session(Following[File]):
         return Counted([(word, (self.index.having(word) & here).bit_count()) for word in words], files)
 
     def offered(self, formula: bytes = b"") -> list[bytes]:
-        """The words that a listing shows at the place to which a formula leads, none where it leads nowhere."""
+        """The words that a listing shows at the place to which a formula leads, none if it leads nowhere."""
         at = Where(self.place, self.changes, formula)
         if self._offered is None or self._offered.at != at:
             try:
@@ -392,19 +392,19 @@ class Session(Following[File]):
         return self._offered.words
 
     def known(self) -> set[bytes]:
-        """The words that a formula may have: those that are declared or that an axiom begins with, and all that files have. Where there is
-        no way back from the root, of files as far as they were looked at."""
+        """The words that a formula may have: those that are declared or that are on the left side of an axiom, and all that files have. If there is
+        no way back from the root, files are covered as far as they were looked at."""
         self._refresh()
         begun = {left for left, _ in self.axioms}
         return self.declared.union(begun, filter(None, map(head_of, begun)), self.index.words())
 
     def described(self) -> Iterable[File]:
-        """Each file with all words that it has, as far as `known` could look."""
+        """Each file with all its words, as far as `known` could look."""
         self._refresh()
         return self.index.files.values()
 
     def beginning(self, word: bytes) -> list[bytes]:
-        """The words of files that begin as this one does, the most frequent first."""
+        """The words of files that begin with this text, the most frequent first."""
         self._refresh()
         return self.index.beginning(word)
 
@@ -413,7 +413,7 @@ class Session(Following[File]):
         return is_plain(word) and word in self.declared or head_of(word) in self.declared and word not in self.declared
 
     def instead_of(self, formula: bytes) -> Instead | None:
-        """The formula that finds what one with unknown words would, without these, or None if there is none: see `formulas.without`."""
+        """The formula that finds the same as one with unknown words, without these, or None if there is none: see `formulas.without`."""
         return without(formula, self._asked_unknown(formula))
 
     def unknown(self, formula: bytes) -> list[bytes]:

@@ -15,15 +15,15 @@ from lisfs.shell.terminal import Screen
 from lisfs.shell.undoing import moving
 from lisfs.words import is_built_in, is_head, is_test, is_word
 
-# So many refusals of one command are shown.
+# How many refusals of one command are shown.
 SHOWN = 5
-# Refusals that hold for one file, so that another one may still be changed.
+# Refusals that concern one file, so that another one may still be changed.
 OF_ONE_FILE = (TOO_MANY_ASSIGNED, LARGE_DESCRIPTION)
 NO_WAY_BACK = "there is no way back to this place, which is too long for a line: `cd` elsewhere first"
 
 
 class Wanted(NamedTuple):
-    """Files, and words that they are to be given or to lose."""
+    """Files, and words that they should be given or lose."""
 
     files: list[File]
     words: list[bytes]
@@ -57,7 +57,7 @@ class Tagging:
             self.screen.lines([f"{said(*words)}: {of_files(still)} kept it: another word entails it, or the file has it on its own"])
 
     def wanted(self, command: str, given: Sequence[bytes]) -> Wanted:
-        """Which arguments are files, and which are words: the name of a file of the place is a file, and anything else is a word. `WORD in
+        """Finds which arguments are files, and which are words: the name of a file of the place is a file, and anything else is a word. `WORD in
         FORMULA` is a word and the files of another place."""
         if len(given) == 3 and given[1] == b"in":
             words = [given[0]]
@@ -77,7 +77,7 @@ class Tagging:
         return Wanted(files, words)
 
     def judge(self, words: Sequence[bytes]) -> None:
-        """Refuses words that no file can be given, as the program would, before anybody is asked. Raises `Failed`."""
+        """Refuses words that no file can be given, as the program would, before the person is asked. Raises `Failed`."""
         for word in words:
             if is_built_in(word):
                 raise Failed(sentence(refusal_of(BUILT_IN), b"mv x /" + word, self.session))
@@ -104,7 +104,7 @@ class Tagging:
         return f"{said(*given)}: no file of this place is among these: {usage}"
 
     def change(self, line: bytes, changes: Sequence[Retag], count: int, question: str, fitting: int) -> None:
-        """Makes changes to some of `count` files. `fitting` of them have room for the words."""
+        """Changes some of `count` files. `fitting` of them have room for the words."""
         if fitting > ASKED and self.screen.asks and not self.screen.says_yes(f"{question} {of_files(fitting)}?"):
             raise Failed("nothing was changed")
         with self.staying(said(line.split()[0])):
@@ -118,7 +118,7 @@ class Tagging:
         return not self.screen.interrupts.has_come and (not found.refused or found.refused[-1][1].number in OF_ONE_FILE)
 
     def tell_refusals(self, found: Retagged) -> None:
-        """A sentence for each file that was refused, as far as there are not many."""
+        """A sentence for each file that was refused, up to a number."""
         told = [sentence(refused, b"mv %b /%b" % (change.name, b"/".join(change.gains)), self.session) for change, refused in found.refused[:SHOWN]]
         if len(found.refused) > SHOWN:
             told.append(f"and {of_files(len(found.refused) - SHOWN)} more")
@@ -130,7 +130,7 @@ class Tagging:
     # One file.
 
     def asks_to_move(self, given: Sequence[bytes]) -> None:
-        """On a terminal, shows which words `mv` takes and gives, and asks. What the program refuses is not asked about."""
+        """On a terminal, shows which words `mv` takes and gives, and asks. A command that the program refuses causes no question."""
         if not self.screen.asks or len(given) != 2 or not self.session.is_here(given[0]):
             return
         change = moving(given[0], self.session.place, given[1], self.session.index.files)
@@ -157,7 +157,7 @@ class Tagging:
         self.screen.lines([f"undone: {said(line.strip())}{' (of an earlier shell)' if is_earlier else ''}"])
 
     def find_earlier(self) -> bool:
-        """Whether the last change of an earlier shell is to be undone, which is then among those that are kept."""
+        """Finds whether the last change of an earlier shell should be undone; it is then among those that are kept."""
         try:
             change = self.earlier.change() if self.earlier else None
         except NotUndone as error:
@@ -168,7 +168,7 @@ class Tagging:
 
     @contextlib.contextmanager
     def staying(self, command: str) -> Iterator[None]:
-        """Around changes at the root, after which the place is the same; or the root, if they have removed a word of it."""
+        """Changes at the root in a block, after which the place is the same; or the root, if the changes have removed a word of it."""
         place = self.session.place
         try:
             yield

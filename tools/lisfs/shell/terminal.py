@@ -1,4 +1,4 @@
-"""What a person at a terminal sees and types: output, colours, a pager, Ctrl-C, and the lines of earlier days."""
+"""What a person at a terminal sees and types: output, colours, a pager, Ctrl-C, and the history of lines."""
 import contextlib
 import os
 import re
@@ -15,25 +15,25 @@ try:
     import readline
     HAS_READLINE = True
 except ImportError:
-    # A Python without it: lines are typed as the terminal lets one.
+    # A Python without readline: lines are typed as the terminal allows.
     HAS_READLINE = False
 
 INPUT, OUTPUT, ERRORS = 0, 1, 2
-# So many lines are kept of earlier days.
+# How many lines of the history are kept.
 REMEMBERED = 2_000
-# So many characters of a text are shown before somebody looks whether Ctrl-C has come.
+# How many characters of a text are shown before the next check for Ctrl-C.
 PIECE = 4_096
 WORD, PLACE, FAULT = "1;34", "1;32", "31"
-# What a colour is written as, of which a terminal shows nothing.
+# The escape sequence of a colour, which takes no room on a terminal.
 COLOUR = re.compile(r"\x1b\[[0-9;]*m")
-# What `less` is told, unless `$LESS` says otherwise: end where it all fits, show colours, and leave the screen as it is.
+# The options of `less`, unless `$LESS` is set: end if it all fits, show colours, and leave the screen as it is.
 LESS = "FRX"
 # The statuses with which a system's shell says that it has not started a program.
 NOT_STARTED = (126, 127)
 
 
 def in_columns(texts: Sequence[str], width: int, painted: Callable[[str], str] = str) -> list[str]:
-    """Lines of texts, in order from above to below, each text in so many characters."""
+    """Lines of texts in columns, in order from top to bottom, each text padded to a number of characters."""
     columns = max(1, shutil.get_terminal_size().columns // width)
     rows = -(-len(texts) // columns)
     lines = []
@@ -44,18 +44,18 @@ def in_columns(texts: Sequence[str], width: int, painted: Callable[[str], str] =
 
 
 def as_text(data: bytes) -> str:
-    """The bytes of a file as a terminal shows them: harmlessly, and so that a new line follows."""
+    """The bytes of a file as a terminal shows them: harmless, and with a line feed at the end."""
     text = harmless(data, "\n\t")
     return text if text.endswith("\n") or not text else text + "\n"
 
 
 class Stopped(Exception):
-    """Ctrl-C has come: the line is over."""
+    """Ctrl-C has come: the line ends."""
 
 
 class Interrupts:
-    """Ctrl-C. While a line is typed it breaks the typing off. Else it is noted, and told where somebody asks: so no command is broken off in its
-    middle, and the session goes on."""
+    """Ctrl-C. While a line is typed it interrupts the typing. Otherwise it is noted, and reported at the next check: so no command is interrupted in
+    its middle, and the session goes on."""
 
     def __init__(self) -> None:
         self.has_come = self._is_typing = False
@@ -77,7 +77,7 @@ class Interrupts:
 
     @contextlib.contextmanager
     def typing(self) -> Iterator[None]:
-        """In the block `KeyboardInterrupt` may be raised; `Stopped`, where Ctrl-C has come before."""
+        """In the block `KeyboardInterrupt` may be raised; or `Stopped`, if Ctrl-C has come before."""
         self._is_typing = True
         try:
             self.ask()
@@ -87,7 +87,7 @@ class Interrupts:
 
     @contextlib.contextmanager
     def working(self) -> Iterator[None]:
-        """A part of the typing that is not to be broken off, as where the program is asked for words."""
+        """A part of the typing that must not be interrupted, for example while the program is asked for words."""
         was_typing, self._is_typing = self._is_typing, False
         try:
             yield
@@ -96,7 +96,7 @@ class Interrupts:
 
 
 class Screen:
-    """Where the shell shows what there is."""
+    """Where the shell shows its output."""
 
     def __init__(self, interrupts: Interrupts) -> None:
         self.interrupts = interrupts
@@ -119,18 +119,18 @@ class Screen:
         self.put("".join(line + "\n" for line in lines).encode(self.encoding, "backslashreplace"))
 
     def many(self, lines: Sequence[str]) -> None:
-        """Shows lines by a pager, if they are more than the terminal shows; else a hundred at a time, so that Ctrl-C ends them."""
+        """Shows lines in a pager, if they don't fit the terminal; else a hundred at a time, so that Ctrl-C ends them."""
         if not self.page("".join(line + "\n" for line in lines)):
             for at in range(0, len(lines), 100):
                 self.lines(lines[at:at + 100])
 
     def page(self, text: str, always: bool = False) -> bool:
-        """Shows a text by a pager, if it is longer than the terminal, or always. Whether it did."""
+        """Shows a text in a pager, if it doesn't fit the terminal, or always. Returns whether it did."""
         size, command = shutil.get_terminal_size(), pager() if self.asks else None
         rows = sum(max(1, -(-len(COLOUR.sub("", line)) // size.columns)) for line in text.split("\n"))
         if not command or rows <= size.lines and not always:
             return False
-        # Whoever has seen enough ends the pager, which then takes no more.
+        # A person who has seen enough ends the pager, which then reads no more.
         with contextlib.suppress(BrokenPipeError), subprocess.Popen(["/bin/sh", "-c", command], stdin=subprocess.PIPE,
                                                                     env={"LESS": LESS, **os.environ}) as shown:
             assert shown.stdin
@@ -141,7 +141,7 @@ class Screen:
         return shown.wait() not in NOT_STARTED
 
     def content(self, data: bytes) -> None:
-        """Shows the bytes of a file: on a terminal harmlessly, and so that a new line follows."""
+        """Shows the bytes of a file: on a terminal harmless, and with a line feed at the end."""
         if not self.is_terminal:
             self.put(data)
             return
@@ -150,38 +150,38 @@ class Screen:
             self.put(text[at:at + PIECE].encode(self.encoding, "backslashreplace"))
 
     def fault(self, line: str) -> None:
-        """Tells what is amiss, on standard error."""
+        """Says on standard error what is wrong."""
         with contextlib.suppress(OSError):
             text = self.coloured(harmless(line), FAULT, ERRORS) + "\n"
             os.write(ERRORS, text.encode(self.encoding, "backslashreplace"))
 
     def complain(self, line: str) -> None:
-        """The same of the shell's own work, which a script names."""
+        """The same for the shell's own work; in a script the line begins with the name of the tool."""
         self.fault(line if self.asks else f"shell: {line}")
 
     def note(self, line: str) -> None:
-        """Something beside what was asked. Of a script it is told on standard error, so that its output is that of the program."""
+        """Says something besides the requested output. In a script this goes to standard error, so that the output is that of the program."""
         if self.asks:
             self.lines([line])
         else:
             self.complain(line)
 
     def prompt(self, place: bytes) -> str:
-        """The end of it where it is long. What a terminal does not show is marked, so that the line's length is known."""
+        """The prompt, or its end if it is long. What a terminal does not show is marked, so that the line's length is known."""
         text, most = harmless(place if place.startswith(b"/") else b"/" + place), max(20, shutil.get_terminal_size().columns // 2)
         text = text if len(text) <= most else ".." + text[-most + 2:]
         shown = f"\1\x1b[{PLACE}m\2{text}\1\x1b[0m\2" if HAS_READLINE and self._has_colours[OUTPUT] else text
         return shown + "> "
 
     def again(self, lines: Iterable[str], typed: str, behind: int) -> None:
-        """Shows lines below the one that is being typed, and then that one again, with the cursor before so many characters."""
+        """Shows lines below the one that is being typed, and then that one again, with the cursor `behind` characters before its end."""
         prompt = self._prompt.replace("\1", "").replace("\2", "")
         text = "\n" + "".join(line + "\n" for line in lines) + prompt + harmless(os.fsencode(typed)) + "\b" * behind
         with self.interrupts.working(), contextlib.suppress(Stopped):
             self.put(text.encode(self.encoding, "backslashreplace"))
 
     def typed(self, prompt: str) -> bytes:
-        """A line that is typed, as bytes; lines where they were pasted. Raises `EOFError` at Ctrl-D and `KeyboardInterrupt` at Ctrl-C."""
+        """A line that is typed, as bytes; several lines if they were pasted. Raises `EOFError` at Ctrl-D and `KeyboardInterrupt` at Ctrl-C."""
         self._prompt = prompt
         self.interrupts.forget()
         with self.interrupts.typing():
@@ -199,18 +199,18 @@ class Screen:
 
 
 def pager() -> str | None:
-    """The command that shows a long text, or None: `$PAGER`, of which an empty one and `cat` say that none is wanted, or else `less`."""
+    """The command that shows a long text, or None: `$PAGER`, which turns it off if it is empty or `cat`, or else `less`."""
     command = os.environ.get("PAGER", "less" if shutil.which("less") else "").strip()
     return command if command not in ("", "cat") and os.environ.get("TERM", "dumb") != "dumb" else None
 
 
 def history_path() -> str:
-    """The file of the lines of earlier days."""
+    """The path of the history file."""
     return os.path.join(state_folder(), "shell_history")
 
 
 class History:
-    """Lines of earlier days, in a file that its owner alone reads. Where it can't be read or written, there are those of today."""
+    """The history of lines, in a file that only its owner reads. If it can't be read or written, it has only the lines of this shell."""
 
     def __init__(self, path: str) -> None:
         self.path = path
@@ -218,7 +218,7 @@ class History:
         if HAS_READLINE:
             readline.set_auto_history(False)
             readline.clear_history()
-            # What is pasted is looked at before it is carried out.
+            # Pasted text is looked at before it runs.
             readline.parse_and_bind("set enable-bracketed-paste on")
             with contextlib.suppress(OSError, ValueError):
                 self._begin()
@@ -240,7 +240,7 @@ class History:
             file.write(b"".join(line + b"\n" for line in lines))
 
     def add(self, line: bytes) -> None:
-        """Keeps a line, each as it comes, so that none is lost where the terminal is."""
+        """Keeps a line as soon as it comes, so that none is lost if the terminal goes away."""
         if not HAS_READLINE or not line.strip() or line == self.last:
             return
         self.last = line

@@ -1,4 +1,4 @@
-"""What undoes each command: other commands, all of them for the root, and words of files that are given back or taken back."""
+"""What undoes each command: other commands, all of them for the root, and words that files are given or that are taken from them."""
 import re
 from collections.abc import Callable, Mapping, Sequence
 from typing import NamedTuple, TypeAlias
@@ -9,37 +9,37 @@ from lisfs.index import File
 from lisfs.words import is_built_in, is_head
 
 ROOT = b"/"
-# So many changes are kept. Each may hold all bytes of a file.
+# How many changes are kept. Each may hold all bytes of a file.
 UNDOABLE = 32
-# So many words stand in an `add` line at most, so that it is no longer than a line may be.
+# The most words of an `add` line, so that it is not too long.
 IN_A_LINE = 8
-# What a place of words does not have.
+# Signs that a place of words does not have.
 NO_WORDS = re.compile(rb"[|!<>]")
 
 
 class Command(NamedTuple):
-    """The words of a line, and the bytes behind it."""
+    """The words of a line, and the bytes after it."""
 
     words: tuple[bytes, ...]
     payload: bytes | None = None
 
 
 class Change(NamedTuple):
-    """A line that changed the image, what undoes it at the root, and the changes of words that are to be undone after that."""
+    """A line that changed the image, what undoes it at the root, and the changes of words that must be undone after that."""
 
     line: bytes
     commands: tuple[Command, ...] = ()
     retags: tuple[Retag, ...] = ()
 
 
-# The two parts of a change that undo it.
+# The two parts that undo a change.
 Undoing: TypeAlias = tuple[tuple[Command, ...], tuple[Retag, ...]]
 Files: TypeAlias = Mapping[bytes, File]
 NOTHING: Undoing = (), ()
 
 
 def undoing(words: Sequence[bytes], place: bytes, files: Files, content: Callable[[bytes], bytes]) -> Undoing:
-    """What will undo a command at a place. What `content` raises is raised."""
+    """What will undo a command at a place. Errors of `content` pass through."""
     match list(words):
         case [b"mkdir", word]:
             return of_words(*((b"unaxiom", word, other) for other in words_in(place)), (b"rmdir", word))
@@ -68,14 +68,14 @@ def of_words(*commands: tuple[bytes, ...]) -> Undoing:
 
 
 def removed(file: File, content: bytes) -> Undoing:
-    """What makes a file again that was removed."""
+    """What makes a removed file again."""
     words = sorted(file.given)
     add = Command((b"add", file.name, b"%d" % len(content), *words[:IN_A_LINE]), content)
     return (add,), (Retag(file.name, loses=tuple(words[IN_A_LINE:])),) if words[IN_A_LINE:] else ()
 
 
 def moving(name: bytes, place: bytes, formula: bytes, files: Files) -> Retag | None:
-    """What `mv` does to a file, or None where it is refused, since there is no such file or one of the two places has no words of its own."""
+    """What `mv` does to a file, or None if it is refused, since there is no such file or one of the two places is not a place of words."""
     here, there = tags_of(place), tags_of(place_after(place, formula))
     if name not in files or here is None or there is None:
         return None
@@ -85,7 +85,7 @@ def moving(name: bytes, place: bytes, formula: bytes, files: Files) -> Retag | N
 
 
 def tags_of(place: bytes) -> set[bytes] | None:
-    """The words that a file is given at a place, or None if the place has no words of its own."""
+    """The words that a file is given at a place, or None if it is not a place of words."""
     return None if NO_WORDS.search(place) else {word for word in words_in(place) if not is_head(word) and not is_built_in(word)}
 
 

@@ -33,7 +33,7 @@ from lisfs.web.connections import WAITING, Connections
 from lisfs.web.image import Image
 from lisfs.web.site import Site
 
-# What the first page needs.
+# The packages that the first page needs.
 PACKAGES = {"jinja2": "python3-jinja2", "markupsafe": "python3-markupsafe"}
 for package, of_debian in PACKAGES.items():
     if importlib.util.find_spec(package) is None:
@@ -41,7 +41,7 @@ for package, of_debian in PACKAGES.items():
 
 
 class NotServed(Exception):
-    """Nothing can be served, for a cause that one line tells."""
+    """Nothing can be served, for a cause that one line states."""
 
 
 def tell(line: str) -> None:
@@ -49,11 +49,12 @@ def tell(line: str) -> None:
 
 
 def heard(number: int, frame: FrameType | None) -> None:
-    """That a signal has come is written where `come_signals` says."""
+    """A signal handler. The arrival itself is written to the descriptor of `come_signals`."""
 
 
 def come_signals() -> int:
-    """Where a byte can be read when one of the signals has come that end it. One that is ignored, as by `nohup`, stays so."""
+    """A descriptor that becomes readable when one of the signals has come that end the tool. A signal that is ignored, as by `nohup`, stays
+    ignored."""
     come, sent = os.pipe()
     os.set_blocking(sent, False)
     signal.set_wakeup_fd(sent, warn_on_full_buffer=False)
@@ -64,7 +65,7 @@ def come_signals() -> int:
 
 
 def listening(port: int) -> socket.socket:
-    """Where clients of this machine come."""
+    """The socket to which clients of this machine connect."""
     try:
         return socket.create_server(("127.0.0.1", port), backlog=WAITING)
     except OSError as error:
@@ -72,12 +73,12 @@ def listening(port: int) -> socket.socket:
 
 
 def serve(path: str, port: int, can_write: bool) -> int:
-    """The status."""
+    """Serves the image, and returns the status."""
     with listening(port) as listener:
         program, dump = opened("browse", path)
         site = None
         try:
-            # However it goes, nobody has the image any more at the end.
+            # However it ends, no process has the image afterwards.
             with program:
                 site = Site(Image(program, dump, limits_of(path)), os.path.basename(path), can_write, listener.getsockname()[1])
                 connections, come = Connections(site, listener), come_signals()
@@ -85,7 +86,7 @@ def serve(path: str, port: int, can_write: bool) -> int:
                 print(site.address, flush=True)
                 connections.serve()
         except Ended:
-            # A page has told of it.
+            # A page has reported it.
             if not site or not site.end:
                 raise
     return 1 if site.end else 0

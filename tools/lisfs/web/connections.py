@@ -1,9 +1,9 @@
-"""Many clients at once, in one thread: none of them, however slow or large, holds up another one or takes more than its share.
+"""Many clients at once, in one thread: none of them, however slow or large, delays another one or takes more than its share.
 
-A connection brings one request and takes one answer. The head of a request has so many bytes at most; its body is read only where the site has
-admitted the head, and has as many as the head says. What is not there whole after some seconds is closed. Where too many connections are open,
-one makes room for a new one: one of which no request was admitted first, so that who only connects keeps nobody out. A request is answered
-whole before the next one: the program below carries out one command after the other.
+A connection has one request and one answer. The head of a request has a bounded length; its body is read only if the site has admitted the head, and
+has the length that the head says. A request that is not complete after some seconds is closed. If too many connections are open, one makes room for a
+new one: first one without an admitted request, so that a client that only connects keeps nobody out. A request is answered whole before the next one:
+the program runs one command after the other.
 """
 import contextlib
 import email.utils
@@ -21,14 +21,14 @@ from lisfs.showing import harmless
 from lisfs.web.site import HEAD, POLICY, Answer, Request, Wrong
 
 READ, WRITE = selectors.EVENT_READ, selectors.EVENT_WRITE
-# So many connections are open at most, and so many wait to be opened. So many bytes are read at once, and of a refused request still, so that
-# who sends them sees the answer.
+# The most open connections, the most that wait to be opened, how many bytes are read at once, and how many more of a refused request, so that its
+# sender sees the answer.
 MOST, WAITING = 200, 128
 PIECE, PASSED_OVER = 65_536, 16_777_216
 
 
 def patience(seconds: float) -> float:
-    """How long something may take: so many seconds, or as many as the environment says."""
+    """How long something may take: this many seconds, or as many as the environment says."""
     text = os.environ.get("LISFS_PATIENCE") or str(seconds)
     with contextlib.suppress(ValueError):
         if 0 < (wanted := float(text)) <= 1_000_000:
@@ -41,8 +41,8 @@ REQUEST, ANSWER, END = patience(20), patience(60), patience(5)
 
 
 def spelled(answer: Answer, can_write: bool) -> bytes:
-    """The bytes of an answer. Each has all that keeps a browser from taking it for something else, or showing it elsewhere."""
-    # With `no-referrer` a browser would say of a form that it comes from nowhere, as a page from elsewhere could let it say too.
+    """The bytes of an answer. Each has all headers that keep a browser from taking it for something else, or showing it elsewhere."""
+    # With `no-referrer` a browser would send no origin with a form, as a foreign page could make it do too.
     rows = [f"HTTP/1.1 {answer.status} {http.HTTPStatus(answer.status).phrase}", f"Date: {email.utils.formatdate(usegmt=True)}",
             f"Content-Type: {answer.kind}", f"Content-Length: {len(answer.body)}", "Connection: close", "Cache-Control: no-store",
             f"Content-Security-Policy: {POLICY}", "X-Content-Type-Options: nosniff",
@@ -55,7 +55,7 @@ def spelled(answer: Answer, can_write: bool) -> bytes:
 
 
 class Site(Protocol):
-    """Who answers: `site.Site`."""
+    """The object that answers: `site.Site`."""
     can_write: bool
 
     def admitted(self, head: bytes) -> tuple[Request, int]: ...
@@ -68,18 +68,18 @@ class Site(Protocol):
 class Connection:
     def __init__(self, client: socket.socket) -> None:
         self.socket, self.given, self.length, self.unsent, self.passed = client, bytearray(), 0, memoryview(b""), 0
-        # Once it is admitted.
+        # The request, once it is admitted.
         self.request: Request | None = None
         # Whether it waits for a request, and when it is closed.
         self.is_asking, self.until = True, time.monotonic() + REQUEST
 
 
 class Connections:
-    """Serves a site at a listening socket until it is told to end."""
+    """Serves a site at a listening socket until it must end."""
 
     def __init__(self, site: Site, listener: socket.socket) -> None:
         self.site, self.listener, self.is_ending = site, listener, False
-        # By their descriptors.
+        # By descriptor.
         self.open: dict[int, Connection] = {}
         listener.setblocking(False)
         self.selector = selectors.DefaultSelector()
@@ -100,7 +100,7 @@ class Connections:
                 self._close(connection)
             soonest = min((connection.until for connection in self.open.values()), default=None)
             for key, _ in self.selector.select(None if soonest is None else max(0, soonest - now)):
-                # Some call before may have closed this one.
+                # An earlier call may have closed this one.
                 if key.fileobj is self.listener or key.fd not in self.open or self.open[key.fd].socket is key.fileobj:
                     key.data()
         for connection in list(self.open.values()):
@@ -117,8 +117,8 @@ class Connections:
             self.selector.register(client, READ, lambda: self._serve(connection))
 
     def _make_room(self) -> bool:
-        """Closes a connection that is not being answered: one without an admitted request, or else one that has its answer, or else one whose
-        request is not there whole; and of these the one that has waited longest. Whether there was one."""
+        """Closes a connection that is not being answered: one without an admitted request, or else one that has its answer, or else one whose request
+        is not complete; among these the one that has waited longest. Returns whether there was one."""
         waiting = [connection for connection in self.open.values() if connection.request is None or not connection.unsent]
         if waiting:
             self._close(min(waiting, key=lambda connection: (connection.request is not None, connection.is_asking, connection.until)))
@@ -143,7 +143,7 @@ class Connections:
         except OSError:
             self._close(connection)
         except Exception:
-            # A mistake of the reader of requests ends one of them.
+            # An error of the parser of requests ends only one of them.
             say_fault()
             self._close(connection)
 
@@ -162,7 +162,7 @@ class Connections:
             self._answer(connection, self.site.answer(request, bytes(connection.given[:connection.length])))
 
     def _admit(self, connection: Connection) -> Request | None:
-        """The request, once its head is there whole."""
+        """The request, once its head is complete."""
         end = connection.given.find(b"\r\n\r\n", 0, HEAD)
         if end < 0:
             if len(connection.given) >= HEAD:
@@ -184,7 +184,7 @@ class Connections:
     def _send(self, connection: Connection) -> None:
         connection.unsent = connection.unsent[connection.socket.send(connection.unsent):]
         if not connection.unsent:
-            # Bytes that nobody reads would make the system take the answer back, so the other side is read until it closes too.
+            # Unread bytes would make the system discard the answer, so the other side is read until it closes too.
             connection.socket.shutdown(1)
             connection.until = time.monotonic() + END
             self.selector.modify(connection.socket, READ, self.selector.get_key(connection.socket).data)

@@ -1,7 +1,6 @@
-"""What of a file's bytes a page shows: a mail by its header and its text parts, a text as it is, and nothing of what is no text.
+"""Which of a file's bytes a page shows: a mail by its header and its text parts, a text as it is, and nothing of what is not text.
 
-Whatever the bytes are, it takes no longer than in proportion to them, and a fraction of a second, since other pages wait meanwhile; and it
-gives text alone.
+Whatever the bytes are, it takes linear time, and a fraction of a second, since other pages wait meanwhile; and it returns only text.
 """
 import email.errors
 import email.header
@@ -10,17 +9,17 @@ import email.parser
 import re
 from typing import NamedTuple
 
-# So many characters of a text are shown, and of a header; so many parts of a mail.
+# The most characters of a text and of a header that are shown, the most headers, and the most parts of a mail.
 SHOWN, HEADER, MOST_HEADERS, PARTS = 262_144, 1_000, 20, 64
 HEADERS = ("From", "To", "Cc", "Date", "Subject")
-# A mail is a text where more parts may stand in one another, more lines may begin a part, or it has more lines, counted once or for each of the
-# parts in which they may stand; and where a header with parameters is longer, or all of these are.
+# Limits of a mail; beyond one, it is shown as a text: the depth of nested parts, the lines that may begin a part, the lines, counted once or for each
+# part that may contain them, and the length of a header with parameters, and of all these headers.
 NESTED, BOUNDARIES, LINES, LINES_OF_PARTS, PARAMETERS, ALL_PARAMETERS = 16, 1_000, 25_000, 100_000, 2_048, 24_576
 PARAMETER_LINES = re.compile(rb"\ncontent-(?:type|disposition):[^\n]*(?:\n[ \t][^\n]*)*")
-# In a text fewer than one character in so many is none.
+# In a text at most one character in this many is not text.
 RARE = 10
 NO_TEXT = bytes((*range(9), *range(14, 27), *range(28, 32), 127))
-# Character sets that are read. Others are taken for UTF-8.
+# Character sets that are decoded. Others are taken for UTF-8.
 CHARSET = re.compile(r"(utf-?8|us-ascii|ascii|iso-?8859-?[0-9]{1,2}|windows-125[0-9]|cp125[0-9]|koi8-[ru]|big5|gb2312|gbk|gb18030|shift_jis"
                      r"|euc-(jp|kr)|iso-2022-jp)", re.I)
 
@@ -40,7 +39,7 @@ class Mail(NamedTuple):
 
 
 def text_of(content: bytes) -> str | None:
-    """The text that some bytes are, or None. A NUL is in no text."""
+    """The text of some bytes, or None if they are not text. A text has no NUL."""
     if b"\0" in content:
         return None
     text = content.decode("utf-8", "replace")
@@ -49,7 +48,7 @@ def text_of(content: bytes) -> str | None:
 
 
 def cut(text: str, most: int = SHOWN) -> tuple[str, bool]:
-    """What is shown of a text, and whether that is not all."""
+    """The part of a text that is shown, and whether that is not all."""
     return text[:most].replace("\r\n", "\n"), len(text) > most
 
 
@@ -62,7 +61,7 @@ def decoded(data: bytes, charset: str | None) -> str:
 
 
 def header_text(value: str) -> str:
-    """A header as it is meant: encoded words decoded, in one line."""
+    """A decoded header, in one line."""
     line = " ".join(value[:HEADER].encode("utf-8", "surrogateescape").decode("utf-8", "replace").split())
     if "=?" not in line:
         return line
@@ -82,7 +81,7 @@ def part_of(part: email.message.Message, most: int) -> Part:
 
 
 class Message(email.message.Message):
-    """A report of delivery is a text here: the package would make a message of each of its paragraphs."""
+    """A message that treats a delivery report as text: the package would make a message of each of its paragraphs."""
 
     def get_content_type(self) -> str:
         kind = super().get_content_type()
@@ -90,8 +89,8 @@ class Message(email.message.Message):
 
 
 def is_simple(content: bytes) -> bool:
-    """Whether the package reads a mail in no more than its time: it makes an object of each part, goes through each line once for each part in
-    which it stands, and through the header of a part with the square of its parameters."""
+    """Whether the package parses a mail in a bounded time: it makes an object of each part, reads each line once for each part that contains it, and
+    reads the header of a part in quadratic time of its parameters."""
     small = b"\n" + content.lower().replace(b"\r\n", b"\n").replace(b"\r", b"\n")
     nested, lines = small.count(b"multipart/") + small.count(b"message/"), small.count(b"\n")
     if nested > NESTED or small.count(b"\n--") > BOUNDARIES or lines > LINES or lines * (1 + nested) > LINES_OF_PARTS:
@@ -101,14 +100,14 @@ def is_simple(content: bytes) -> bool:
 
 
 def headers_of(message: email.message.Message) -> list[tuple[str, str]]:
-    """The headers that are shown, in their order, each as it is meant."""
+    """The headers that are shown, in their order, each decoded."""
     given = [(name.lower(), value) for name, value in message.raw_items() if name.title() in HEADERS]
     found = [(wanted, value) for wanted in HEADERS for name, value in given if name == wanted.lower()]
     return [(name, header_text(value)) for name, value in found[:MOST_HEADERS]]
 
 
 def mail_of(content: bytes) -> Mail | None:
-    """The header and the parts of a mail, or None where it is not to be read as one."""
+    """The header and the parts of a mail, or None if it must not be parsed as one."""
     if not is_simple(content):
         return None
     try:
@@ -118,6 +117,6 @@ def mail_of(content: bytes) -> Mail | None:
             parts.append(part_of(part, most))
             most -= len(parts[-1].text or "")
     except Exception:
-        # The package promises not to raise on any bytes, and yet does so on some. Such a mail is a text.
+        # The package promises not to raise on any bytes, but it does for some. Such a mail is shown as a text.
         return None
     return Mail(headers, parts) if headers else None

@@ -1,8 +1,7 @@
-"""An open image as the pages need it: what is asked of the program for a page, the changes, and the index kept in step with them.
+"""An open image as the pages need it: what a page asks the program, the changes, and the index, which is updated with them.
 
-What a place is, and what it shows, the program says. The index says how many files each word leaves, and which files the place has; whether
-the two agree is looked at each time: the files that no word covers are those that the program shows, and each word leaves some files and not
-all.
+The program decides what a place is, and what it shows. The index says how many files each word leaves, and which files the place has. Each time the
+two are compared: the files that no word covers must be those that the program shows, and each word must leave some files and not all.
 """
 import functools
 import hashlib
@@ -23,15 +22,14 @@ if TYPE_CHECKING:
     from lisfs.served import News
 
 
-# So often a place is looked at again, while others change what it shows.
+# How often a place is read again, while others change what it shows.
 TRIES = 20
-# So many words of a file surely fit the line that makes it.
+# How many words of a file surely fit the line that makes it.
 FEW = 8
 
 
 class View(NamedTuple):
-    """A place, its files as a row of bits, the words of its listing with the number of files that each leaves, and the files that no word
-    covers."""
+    """A place, its files as a row of bits, the words of its listing with the number of files that each leaves, and the files that no word covers."""
     place: Place
     here: int
     words: list[tuple[bytes, int]]
@@ -39,11 +37,11 @@ class View(NamedTuple):
 
 
 class Differs(Exception):
-    """The index and the program say different things of a place, also where the index was just made."""
+    """The index and the program disagree about a place, even though the index was just made."""
 
 
 class WrongWord(ValueError):
-    """What was typed can't be one word of a command, or no word that a file is given."""
+    """What was typed can't be one word of a command, or is not a word that a file can be given."""
 
 
 class NothingToUndo(Exception):
@@ -55,20 +53,20 @@ class OtherBytes(Exception):
 
 
 class Undo(NamedTuple):
-    """What a change did, and the call that undoes it."""
+    """What a change did, and the function that undoes it."""
 
     told: str
     call: Callable[[], None]
 
 
 class Retagging(Protocol):
-    """`client.tag` or `client.untag`."""
+    """The type of `client.tag` and `client.untag`."""
 
     def __call__(self, program: Commands, given: Mapping[bytes, Collection[bytes]], words: Iterable[bytes]) -> Retagged: ...
 
 
 def text(data: bytes) -> str:
-    """A word or a name, which have no other bytes than ASCII."""
+    """A word or a name as text. They have only ASCII bytes."""
     return data.decode(errors="replace")
 
 
@@ -85,7 +83,7 @@ class Image(image.Image[File]):
     # Questions.
 
     def look(self, formula: bytes) -> View:
-        """A place and what it shows. Raises `Refused` where the formula leads to none."""
+        """A place and what it shows. Raises `Refused` if the formula leads to none."""
         is_anew = False
         for _ in range(TRIES):
             _, printed, listing, _ = self.told((b"cd", formula), (b"pwd",), (b"ls",), (b"cd", b"/"))
@@ -95,7 +93,7 @@ class Image(image.Image[File]):
             shown = [text for letter, text in listing if letter == b"f"]
             if self._agrees(here, words, shown):
                 return View(place, here, words, [self.index.files[name] for name in shown])
-            # Another client may have changed something between. If none has, the words of all files are asked for again.
+            # Another client may have changed something in between. If none has, the words of all files are asked for again.
             if not self.catch_up():
                 if is_anew:
                     break
@@ -132,13 +130,13 @@ class Image(image.Image[File]):
         return word in self.declared if is_plain(word) else not is_head(word) and head_of(word) in self.declared
 
     def about(self, refused: Refused) -> list[bytes]:
-        """The words that a refusal is about, if it is about some."""
+        """The words that a refusal is about, if any."""
         lefts = {left for left, _ in self.axioms}
         known = {word for word in (*self.index.words(), *self.declared, *lefts, *map(head_of, lefts)) if word}
         return about(refused, known if refused.command == "cd" else self.declared)
 
     def meant(self, refused: Refused, formula: bytes) -> list[bytes]:
-        """If no file has a value of a formula: the formulas with values that begin so, which may have been meant."""
+        """If no file has a value of a formula: the formulas with values that begin with it, which may have been meant."""
         for word in self.about(refused):
             if head_of(word) and (found := self.index.beginning(word)):
                 return [replaced(formula, word, value) for value in found[:MEANT]]
@@ -149,7 +147,7 @@ class Image(image.Image[File]):
         way, content = self.asked((b"way", name), (b"cat", name))
         return self._file(name), [text for _, text in as_lines(way).body], as_content(content).body
 
-    # Changes. Each is one command, and a refusal changes nothing. Of the last one it is kept what undoes it.
+    # Changes. Each is one command, and a refusal changes nothing. For the last one, what undoes it is kept.
 
     def _change(self, *command: bytes, at: bytes = image.ROOT) -> None:
         item(command, None, self.program.longest)
@@ -157,10 +155,10 @@ class Image(image.Image[File]):
             self.told(command)
 
     def _file(self, name: bytes) -> File:
-        """The file of a name. Where there is none, the program says so."""
+        """The file of a name. If there is none, the program says so."""
         if name not in self.index.files:
             self.told((b"props", name))
-            # It says that there is one, which another client has just made.
+            # The program has such a file, which another client has just made.
             self.catch_up()
         if name not in self.index.files:
             raise Refused(NO_FILE_HERE, REFUSAL_WORDS[NO_FILE_HERE])
@@ -177,24 +175,24 @@ class Image(image.Image[File]):
         self.last = None
 
     def give(self, name: bytes, word: bytes) -> bool:
-        """Gives a file a word. Whether it had it already, by itself or by another word."""
+        """Gives a file a word. Returns whether it had it already, automatically or by another word."""
         file = self._file(name)
         had = word in file.words
         self._retag(tag(self.program, {name: file.given}, self._words(word)), f"{text(word)} given to {text(name)}")
         return had
 
     def take(self, name: bytes, word: bytes) -> bool:
-        """Takes a word from a file. Whether it has it still, since another word entails it."""
+        """Takes a word from a file. Returns whether it still has it, since another word entails it."""
         file = self._file(name)
         self._retag(untag(self.program, {name: file.given}, self._words(word)), f"{text(word)} taken from {text(name)}")
         return word in file.words
 
     def give_all(self, names: Sequence[bytes], word: bytes) -> Retagged:
-        """Gives several files a word: what was changed, and what was refused."""
+        """Gives several files a word. Returns what was changed, and what was refused."""
         return self._several(tag, names, word, "given to")
 
     def take_all(self, names: Sequence[bytes], word: bytes) -> Retagged:
-        """Takes a word from several files, of those that were given it."""
+        """Takes a word from those of several files that were given it."""
         return self._several(untag, names, word, "taken from")
 
     def _several(self, call: Retagging, names: Sequence[bytes], word: bytes, done: str) -> Retagged:
@@ -209,13 +207,13 @@ class Image(image.Image[File]):
         return [word]
 
     def _retag(self, made: Retagged, told: str) -> None:
-        """Takes in what was changed. Raises the first refusal."""
+        """Applies what was changed. Raises the first refusal."""
         self._take_in(made, told)
         for _, refused in made.refused:
             raise refused
 
     def _take_in(self, made: Retagged, told: str) -> Retagged:
-        """Takes in changes of the words that files were given, and keeps what undoes them, if `told` says what they did."""
+        """Applies changes of the words that files were given, and keeps what undoes them, if `told` says what they did."""
         for change, refused in made.refused:
             refused.command, refused.given = "mv", (change.name, b"/" + b"/".join(change.gains))
         changed = [self.index.files[change.name] for change in made.done]
@@ -265,13 +263,13 @@ class Image(image.Image[File]):
         self.describe([self.index.add(name, len(content), words)])
 
     def _add_again(self, name: bytes, content: bytes, words: Sequence[bytes]) -> None:
-        """Makes a file again, with its words, which one line may be too short for."""
+        """Makes a file again, with its words, for which one line may be too short."""
         self._add(name, content, words[:FEW])
         if words[FEW:]:
             self._retag(tag(self.program, {name: words[:FEW]}, words[FEW:]), "")
 
     def _remove_if(self, name: bytes, digest: bytes) -> None:
-        """Removes a file that has the same bytes as when it was uploaded, since nothing brings others back."""
+        """Removes a file that has the same bytes as when it was uploaded, since other bytes could not be restored."""
         if hashlib.sha256(as_content(self.asked((b"cat", name))[0]).body).digest() != digest:
             raise OtherBytes(name)
         self._remove(name)
@@ -283,7 +281,7 @@ class Image(image.Image[File]):
             self._change(b"mkdir", word, at=place.text)
         except Refused as refused:
             if refused.number == UNKNOWN_PROPERTY:
-                # It is about the place.
+                # The refusal is about the place.
                 refused.given = words
             raise
         self.declared.add(word)
@@ -293,7 +291,7 @@ class Image(image.Image[File]):
         self._can_undo(f"{text(word)} declared", functools.partial(self._undeclare, word, words))
 
     def _undeclare(self, word: bytes, words: Sequence[bytes]) -> None:
-        """Declares a word no more, and removes the axioms that came with it, unless it is in use by now."""
+        """Removes the declaration of a word, and the axioms that came with it, unless it is in use by now."""
         others = self.axioms - {Axiom(word, right) for right in words}
         if not is_test(word) and self.index.having(word) or any(word in axiom or head_of(axiom.left) == word for axiom in others):
             raise Refused(IN_USE, REFUSAL_WORDS[IN_USE])
@@ -303,7 +301,7 @@ class Image(image.Image[File]):
         self._take_back(word)
 
     def take_back(self, word: bytes) -> None:
-        """Declares a word no more."""
+        """Removes the declaration of a word."""
         self._take_back(word)
         self._can_undo(f"{text(word)} declared no more", functools.partial(self.declare, word, Place(b"/")))
 

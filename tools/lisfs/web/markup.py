@@ -1,7 +1,7 @@
-"""HTML out of templates, in which whatever is not markup is escaped, and the addresses of pages.
+"""HTML from templates, in which all that is not markup is escaped, and the addresses of pages.
 
-A template writes what it is given by `{{ }}` alone, and there each value is a text: what is no character in it is made visible, and then it is
-escaped. No template turns that off, and each attribute that shows a value stands in quotes (`tools/tests/test_browse_parts.py` looks).
+A template writes its values only by `{{ }}`, and there each value is a text: invisible characters are made visible, and then it is escaped. No
+template turns that off, and each attribute that shows a value is in quotes (`tools/tests/test_browse_parts.py` checks this).
 """
 from __future__ import annotations
 
@@ -17,23 +17,23 @@ if TYPE_CHECKING:
 
 CONTROLS = {code: 0x2400 + code for code in range(32) if code not in (9, 10)} | {0x7F: 0x2421} | {code: 0xFFFD
                                                                                                   for code in range(0x80, 0xA0)}
-# What makes a text run the other way, so that it is read as another one than it is.
+# Characters that reverse the direction of a text, so that it is read as another one.
 CONTROLS |= {code: 0xFFFD for code in (*range(0x202A, 0x202F), *range(0x2066, 0x206A))}
 
 
-# Most texts have none of these, nor a lone half of a pair.
+# Most texts have none of these, nor a lone surrogate.
 UNSEEN = re.compile("[" + "".join(map(re.escape, map(chr, CONTROLS))) + "\ud800-\udfff]")
 
 
 def visible(text: str | bytes) -> str:
-    """A text without what is no character: a NUL and its like are shown as signs for them, and what is no UTF-8 as a replacement."""
+    """A text with its invisible characters replaced: a NUL and other controls by signs for them, and what is not UTF-8 by a replacement character."""
     if isinstance(text, bytes):
         text = text.decode(errors="replace")
     return text.translate(CONTROLS).encode("utf-8", "replace").decode() if UNSEEN.search(text) else text
 
 
 def written(value: object) -> str:
-    """What a template writes of a value, before it is escaped. Markup is what another part of a template has made."""
+    """What a template writes for a value, before it is escaped. Markup is the result of another part of a template."""
     import markupsafe
     if isinstance(value, markupsafe.Markup):
         return value
@@ -49,12 +49,12 @@ def number(count: int) -> str:
 
 
 def counted(count: int, what: str) -> str:
-    """A number of things of one name."""
+    """A number of things with one name."""
     return f"{number(count)} {what}{'' if count == 1 else 's'}"
 
 
 def address(page: str, /, **given: str | bytes | int | None) -> str:
-    """The address of a page, with what it is given. None is not given, and `_` at the end of a name is dropped."""
+    """The address of a page, with its fields. None is left out, and `_` at the end of a name is dropped."""
     def quoted(value: str | bytes | int) -> str:
         return urllib.parse.quote(str(value) if isinstance(value, int) else value, safe="/:@!(),")
 
@@ -73,5 +73,5 @@ def environment() -> jinja2.Environment:
 
 
 def rendered(template: str, **given: object) -> str:
-    """What a template makes of what it is given."""
+    """The result of a template with these values."""
     return environment().get_template(template).render(given)

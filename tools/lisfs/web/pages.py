@@ -1,5 +1,4 @@
-"""The pages: what each shows of an image. The templates beside this make HTML of it; each page works without a script, and has no address but
-of these pages."""
+"""The pages: what each shows of an image. The templates make HTML of it; each page works without a script, and has only addresses of these pages."""
 from collections.abc import Iterable, Sequence
 from typing import NamedTuple
 
@@ -17,9 +16,9 @@ from lisfs.web.markup import address, counted, number, rendered, visible
 from lisfs.web.places import Place
 from lisfs.words import head_of, is_head
 
-# So many words of a group, files of a list and words of a list stand on a page.
+# The most words of a group, files of a list and words of a list on a page.
 SOME, FILES, WORDS = 15, 100, 200
-# What a change that was done says on the page after it.
+# What the page after a change says.
 DONE = {
     "given": "The file has the word now.", "had": "The file had this word already.", "taken": "The file has the word no more.",
     "still": "The file still has the word: it comes with another word that it has.", "renamed": "The file has another name now.",
@@ -31,13 +30,13 @@ DONE = {
 
 
 class Link(NamedTuple):
-    """A page, and what it is given."""
+    """A page, and its fields."""
     page: str
     given: dict[str, bytes | None]
 
 
 class Part(NamedTuple):
-    """A part of a step: its text with and without `!`, and the places nearby. `parted` is the one with `and` before it, where `or` is."""
+    """A part of a step: its text with and without `!`, and the places nearby. `parted` is the one with `and` instead of `or` before it."""
     whole: bytes
     text: bytes
     is_not: bool
@@ -47,13 +46,13 @@ class Part(NamedTuple):
 
 
 class Step(NamedTuple):
-    """`joined` is the place with `or` before this step, where one is before it."""
+    """`joined` is the place with `or` before this step, if one is before it."""
     parts: list[Part]
     joined: bytes | None
 
 
 class Word(NamedTuple):
-    """A word with the place to which it leads, and how many files it leaves. `shown` is what stands under its head."""
+    """A word with the place to which it leads, and how many files it leaves. `shown` is what is shown under its head."""
     text: bytes
     at: bytes
     files: int = 0
@@ -62,7 +61,7 @@ class Word(NamedTuple):
 
 
 class Card(NamedTuple):
-    """A group of a listing, and how many words it has. `more` leads to all of them, where these are more than are shown."""
+    """A group of a listing, and how many words it has. `more` leads to all of them, if there are more than are shown."""
     title: str
     words: list[Word]
     total: int
@@ -70,14 +69,14 @@ class Card(NamedTuple):
 
 
 class Turns(NamedTuple):
-    """The labels and addresses from page to page of a list, and what is said between them. One that leads nowhere has no address."""
+    """The labels and addresses from page to page of a list, and the text between them. One that leads nowhere has no address."""
     before: list[tuple[str, str | None]]
     told: str
     behind: list[tuple[str, str | None]]
 
 
 class Content(NamedTuple):
-    """What is shown of a file's bytes: a mail, or a text, which is empty where there are no bytes, or neither."""
+    """What is shown of a file's bytes: a mail, or a text, which is empty if there are no bytes, or neither."""
     mail: Mail | None
     text: str | None
     is_cut: bool = False
@@ -93,7 +92,7 @@ def title_of(group: bytes) -> str:
 
 
 def steps_of(place: Place) -> list[Step]:
-    """The steps of a place, each with what can be done to it."""
+    """The steps of a place, each with its possible changes."""
     def part(step: int, at: int, text: bytes) -> Part:
         is_not = text.startswith(b"!")
         return Part(text, text[1:] if is_not else text, is_not, place.negated(step, at), place.without(step, at),
@@ -114,7 +113,7 @@ def card(place: Place, group: bytes, words: list[tuple[bytes, int]], wanted: byt
 
 
 def turns(at: int, size: int, length: int, page: str, /, **given: bytes | None) -> Turns | None:
-    """The links from page to page of a list, where it has more than one."""
+    """The links from page to page of a list, if it has more than one."""
     last = max(0, (length - 1) // size)
     if not last:
         return None
@@ -153,7 +152,7 @@ class Pages:
 
     def whole(self, template: str, title: str | bytes, /, place: Place | None = None, typed: bytes | None = None, done: str | None = None,
               **given: object) -> str:
-        """A page. `typed` is what stands in the field for a formula, and `done` says that a change was done."""
+        """A page. `typed` is the text in the field for a formula, and `done` says that a change was done."""
         at = typed if typed is not None else place.text if place else b"/"
         last = self.image.last
         return rendered(template, title=title, site=self.name, at=at, done=done, can_write=self.can_write, token=self.token,
@@ -165,13 +164,13 @@ class Pages:
                           back=address(back.page, **back.given) if back else address(""))
 
     def refused(self, made: Retagged, back: Link) -> str:
-        """A page that says of which files a change was refused."""
+        """A page that says for which files a change was refused."""
         done = f"{counted(len(made.done), 'file')} changed. " if made.done else ""
         rows = [(change.name, sentence_about(refused.number, "mv", self.image.about(refused))) for change, refused in made.refused]
         return self.whole("refused.html", "Refused", told=f"{done}Refused: {counted(len(rows), 'file')}.", rows=rows, back=address(back.page, **back.given))
 
     def missing(self, words: list[bytes]) -> str | None:
-        """That a search by these words can miss a file, where it can."""
+        """Says that a search by these words can miss a file, if it can."""
         files = self.image.index.files.values()
         return joined(derived.told_of_misses(words, ((file.name, file.words) for file in files)),
                       derived.told_of_left_out(filter(self.image.is_assignable, words), ((file.given, file.words) for file in files)))
@@ -189,7 +188,7 @@ class Pages:
         told += ", each with how many files it leaves." if count else " here."
         if view.words and not view.locals and not wanted:
             told += " Each file here has one of them."
-        # Heads, and words that files have by themselves, are not given.
+        # Heads, and words that files have automatically, are not given.
         given = [word for word in view.place.words or () if not is_head(word)
                  and (head_of(word) is None or head_of(word) in self.image.declared)]
         return self.whole(
@@ -198,7 +197,7 @@ class Pages:
             locals=view.locals, most_files=FILES, given=b" ".join(given), file_bytes=self.image.limits.file_bytes)
 
     def listed(self, view: View, page: str, files: list[File], title: str, wanted: bytes, at: int) -> str:
-        """A list of files, by pages."""
+        """A list of files, in pages."""
         found = [file for file in files if wanted.lower() in file.name.lower()]
         at = min(at, max(0, (len(found) - 1) // FILES))
         told = f"{number(len(found))} of {counted(len(files), 'file')}" if wanted else counted(len(files), "file")
@@ -212,7 +211,7 @@ class Pages:
         return self.listed(view, "rest", view.locals, "Files that no word covers", wanted, at)
 
     def words(self, view: View, group: bytes, wanted: bytes, at: int) -> str:
-        """A group of a listing, by pages."""
+        """A group of a listing, in pages."""
         words = dict(groups_of(view.words, wanted)).get(group, [])
         at = min(at, max(0, (len(words) - 1) // WORDS))
         return self.whole(
@@ -226,7 +225,7 @@ class Pages:
         return self.whole(
             "file.html", file.name, place=place, done=done, file=file, file_size=len(content), groups=described(file),
             route=[(word, b"/" + b"/".join(way[:step + 1])) for step, word in enumerate(way)],
-            # How many words it would have, where the program keeps no more of them, or that it can have no more.
+            # How many words it would have, if the program keeps no more of them, or that it can have no more.
             cut=joined(derived.told_of_cut(file.name, content) if derived.is_full(file.words) else None,
                        derived.told_of_no_room(file.given, file.words)),
             content=content_of(file, content, as_text))
@@ -235,7 +234,7 @@ class Pages:
         return self.whole("removing.html", "Remove a file?", place=place, file=file)
 
     def declared(self, wanted: bytes, at: int, done: str | None = None) -> str:
-        """The declared words and the axioms, by pages."""
+        """The declared words and the axioms, in pages."""
         image, small = self.image, wanted.lower()
         words = sorted(word for word in image.declared if small in word.lower())
         axioms = sorted(pair for pair in image.axioms if any(small in word.lower() for word in pair))
@@ -254,10 +253,10 @@ class Pages:
 
 
 def joined(*sentences: str | None) -> str | None:
-    """Those of some sentences that there are, as one text without a full stop at its end."""
+    """Those of some sentences that exist, as one text without a full stop at its end."""
     return ". ".join(filter(None, sentences)) or None
 
 
 def place_of(text: bytes) -> Place:
-    """The place to go back to, which a form or an address names: that of a text that the program has printed, or else the root."""
+    """The place to go back to, which a form or an address names: the program's text of a place, or else the root."""
     return Place(text.removeprefix(b"/") or b"/" if len(text) <= MAX_FORMULA + 1 else b"/")

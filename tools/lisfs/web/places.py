@@ -1,7 +1,7 @@
-"""A place as a page shows it: its steps, and of each the parts that `|` joins, so that each can be taken out, negated and joined by itself.
+"""A place as a page shows it: its steps, and for each the parts that `|` joins, so that each can be taken out, negated and joined separately.
 
-It is made of the text by which the program prints a place (`pwd`), so that a step with `|` stands in parentheses and `!` binds one part. What
-the program makes of the texts that are made here is for it to say.
+It is made from the program's text of a place (`pwd`), so a step with `|` is in parentheses and `!` binds one part. The program decides what the texts
+that are made here mean.
 """
 from lisfs.formulas import formula
 from lisfs.index import File, Index
@@ -9,7 +9,7 @@ from lisfs.words import WORD
 
 
 def split(text: bytes, mark: bytes) -> list[bytes]:
-    """The pieces between the marks that stand in no parentheses."""
+    """The pieces between the marks that are not in parentheses."""
     pieces, depth, begin = [], 0, 0
     for at in range(len(text)):
         byte = text[at:at + 1]
@@ -21,7 +21,7 @@ def split(text: bytes, mark: bytes) -> list[bytes]:
 
 
 def is_enclosed(text: bytes) -> bool:
-    """Whether one pair of parentheses stands round all of it."""
+    """Whether one pair of parentheses encloses all of it."""
     depth = 0
     for at in range(len(text)):
         depth += (text[at:at + 1] == b"(") - (text[at:at + 1] == b")")

@@ -1,11 +1,11 @@
-"""Who may ask, and which page or change is asked for.
+"""Who may send requests, and which page or change is requested.
 
-Whoever knows the printed address may ask, and nobody else: not another user of the machine, and not a page that this user's browser shows from
-elsewhere. The address has a token. It is answered by a cookie and a redirect, so that the token stays in no address bar. All pages lie below a
-path that is random too, to which the cookie is bound: a browser sends a cookie to each port of a machine, and so to the server of somebody else
-there, but not below another path. A form has a token of its own, since a cookie goes along with whatever a browser sends.
+Whoever knows the printed address may send requests, and nobody else: not another user of the machine, and not a foreign page in this user's browser.
+The address has a token. The answer to it is a cookie and a redirect, so that the token stays in no address bar. All pages are below a path that is
+random too, to which the cookie is bound: a browser sends a cookie to each port of a machine, and so to another user's server there, but not below
+another path. A form has a separate token, since a browser sends the cookie with every request.
 
-No path of a request is ever one of a file: each page stands in a table.
+No path of a request is ever the path of a file: each page is in a table.
 """
 import hmac
 import http.server
@@ -28,7 +28,7 @@ from lisfs.web.markup import address, counted
 from lisfs.web.pages import DONE, FILES, Link, Pages, place_of
 from lisfs.words import FILE_NAME, mapped
 
-# The most bytes of a request before its body; of a body without a file, and with one beside the file's own; the most fields of either, beside
+# The most bytes of a request before its body; of a body without a file, and of one besides the file's own bytes; the most fields of either, besides
 # the files that are chosen on a page.
 HEAD, BODY, BESIDE, FIELDS = 16_384, 65_536, 65_536, 64
 HTML, TEXT, BYTES = "text/html; charset=utf-8", "text/plain; charset=utf-8", "application/octet-stream"
@@ -38,7 +38,7 @@ POLICY = ("default-src 'none'; style-src 'self'; script-src 'self'; img-src 'sel
 ONCE = ("Host", "Origin", "Content-Length", "Content-Type", "Cookie", "Sec-Fetch-Site")
 COOKIE, CHOSEN = "lisfs", "chosen"
 TITLES = {404: "Not here", 409: "Refused", 500: "A mistake"}
-# What a page names that tells of a refusal.
+# The fields of a form that a page about a refusal names.
 MEANT = ("name", "other", "word", "words", "left", "right", CHOSEN)
 
 # The fields of an address or a form.
@@ -46,7 +46,7 @@ Fields = dict[str, bytes]
 
 
 class Answer(NamedTuple):
-    """`headers` are pairs, beside those that each answer has."""
+    """`headers` are pairs, besides those that each answer has."""
     status: int
     kind: str
     body: bytes
@@ -54,7 +54,7 @@ class Answer(NamedTuple):
 
 
 class Wrong(Exception):
-    """A request that is refused: a status, and a sentence for who asked. Who is known is shown a page, with a link to the first one."""
+    """A request that is refused: a status, and a sentence for the sender. A known sender gets a page, with a link to the first one."""
 
     def __init__(self, status: int, told: str, is_known: bool = False) -> None:
         super().__init__(told)
@@ -62,10 +62,10 @@ class Wrong(Exception):
 
 
 class Request(http.server.BaseHTTPRequestHandler):
-    """The line and the headers of a request, read by Python's own server, without one."""
+    """The line and the headers of a request, parsed by the class of Python's own server, without a server."""
 
     def __init__(self, head: bytes) -> None:
-        # Nothing of the base is called but what reads the head out of memory.
+        # Only the methods of the base are called that parse the head from memory.
         self.rfile, self.wfile, self.command = io.BytesIO(head), io.BytesIO(), ""
         self.wrong = Wrong(400, "This is no request.")
         self.page = self.query = ""
@@ -77,7 +77,7 @@ class Request(http.server.BaseHTTPRequestHandler):
         self.wrong = Wrong(code, "This is no request that is served here.")
 
     def header(self, name: str) -> str | None:
-        """What a header says, or None where it isn't there. One that may stand once stands once."""
+        """The value of a header, or None if it is missing. A header that may occur once must occur once."""
         found: list[str] = self.headers.get_all(name, [])
         if len(found) > 1 and name in ONCE:
             raise Wrong(400, f"The request says {name} more than once.")
@@ -85,7 +85,7 @@ class Request(http.server.BaseHTTPRequestHandler):
 
 
 def fields(text: str, most: int = FIELDS) -> Fields:
-    """The fields of an address or a form, each as bytes, the first of each name; of the files that are chosen all names, with a blank between."""
+    """The fields of an address or a form, each as bytes, the first of each name; for the chosen files all names, separated by blanks."""
     try:
         pairs = urllib.parse.parse_qsl(text, keep_blank_values=True, encoding="utf-8", errors="surrogateescape", max_num_fields=most)
     except ValueError:
@@ -121,7 +121,7 @@ def parts(body: bytes, kind: str) -> Fields:
 
 
 def same(given: str | None, wanted: str) -> bool:
-    """Whether a secret is the right one, in the same time whatever it is."""
+    """Whether a secret is the right one, in a time that does not depend on it."""
     return hmac.compare_digest((given or "").encode("utf-8", "surrogateescape"), wanted.encode())
 
 
@@ -132,7 +132,7 @@ def number_in(given: Fields, name: str) -> int:
 
 
 def name_for(wanted: bytes) -> bytes:
-    """A file's name out of that which it has elsewhere: each other byte becomes `_`, as `tools/import` does."""
+    """The name of an uploaded file from its name elsewhere: each other byte becomes `_`, as `tools/import` does."""
     return mapped(re.split(rb"[/\\]", wanted)[-1])[-MAX_WORD:]
 
 
@@ -158,11 +158,11 @@ class Site:
             "declare": self.declare, "undeclare": self.undeclare, "axiom": self.axiom, "unaxiom": self.unaxiom,
             "tag": self.tag, "untag": self.untag, "undo": self.undo}
 
-    # Who may ask.
+    # Who may send requests.
 
     def admitted(self, head: bytes) -> tuple[Request, int]:
-        """The request whose head this is, and how many bytes of a body it has. Raises `Wrong` where it is not to be answered; before that
-        nothing of its body is read."""
+        """The request with this head, and how many bytes of a body it has. Raises `Wrong` if it must not be answered; before that nothing of its body
+        is read."""
         if b"\0" in head or re.search(rb"\r(?!\n)", head):
             raise Wrong(400, "This is no request.")
         request = Request(head)
@@ -187,8 +187,8 @@ class Site:
 
     def _must_be_known(self, request: Request) -> None:
         if request.header("Sec-Fetch-Site") not in (None, "same-origin", "none"):
-            # Who knows the path of the pages has come by the printed address, shown as a link somewhere. From here on it is our own page that
-            # leads, so that the browser sends its cookie.
+            # A client that knows the path of the pages has come by the printed address, shown as a link somewhere. From here on our own page leads,
+            # so that the browser sends its cookie.
             raise Wrong(403, "A page from elsewhere may not lead here. Open the address that tools/browse has printed.",
                         request.command == "GET" and request.page.startswith(self.top))
         cookies = [cookie.strip().partition("=") for cookie in (request.header("Cookie") or "").split(";")]
@@ -213,7 +213,7 @@ class Site:
             raise Wrong(413, sentence(LARGE_FILE) if is_upload else "The form is too large.")
         return length
 
-    # What is asked for.
+    # What is requested.
 
     def answer(self, request: Request, body: bytes) -> Answer:
         """The answer to a request that was admitted."""
@@ -241,13 +241,13 @@ class Site:
         except Differs:
             told, status = "The counts here do not agree with the program. Start tools/browse again, and tell its makers.", 500
         except NotAReply:
-            # No later reply can be told, so that nothing more is to be asked.
+            # No later reply can be recognized, so nothing more may be asked.
             self.image.program.kill()
             return self._over("what it showed was no reply")
         except Ended as end:
             return self._over(": ".join(end.text.splitlines()) or str(end))
         except Exception:
-            # A mistake of these pages ends one of them, and not the session.
+            # An error in these pages ends one of them, and not the session.
             say_fault()
             told, status = "These pages have a mistake here, which standard error shows. It affects nothing else.", 500
         given = self._given(request, body)
@@ -259,7 +259,7 @@ class Site:
         return sentence_about(refused.number, refused.command or None, self.image.about(refused))
 
     def refused(self, wrong: Wrong) -> Answer:
-        """The answer to a request that is refused. To who is not known it says nothing that not everybody may know."""
+        """The answer to a request that is refused. To an unknown client it says nothing that not everybody may know."""
         if not wrong.is_known:
             return Answer(wrong.status, TEXT, f"{wrong.told}\n".encode())
         return Answer(wrong.status, HTML, self.pages.told("Not here" if wrong.status == 404 else "Refused", wrong.told).encode())
@@ -296,14 +296,14 @@ class Site:
         return fields(body.decode("latin-1"), FIELDS + FILES)
 
     def _given(self, request: Request, body: bytes) -> Fields:
-        """The fields of a request that was looked at before."""
+        """The fields of a request that was checked before."""
         try:
             return self._form(request, body) if request.command == "POST" else fields(request.query)
         except Wrong:
             return {}
 
     def _back(self, given: Fields) -> Link:
-        """Where a page leads back to that tells of a refusal: to the file or the place of the form."""
+        """Where a page about a refusal leads back to: the file or the place of the form."""
         if given.get("name", b"") in self.image.index.files:
             return Link("file", {"name": given["name"], "at": given.get("at")})
         return Link("declared", {}) if given.get("to") == b"declared" or "left" in given else Link("", {"at": given.get("at")})
@@ -332,7 +332,7 @@ class Site:
         return self._page(self.pages.place(view, given.get("q", b""), f"{left_out(instead)}." if instead else self._told(given)))
 
     def _told(self, given: Fields) -> str | None:
-        """The sentence of a change that was done, and of how many files, if an address says so."""
+        """The sentence for a change that was done, and for how many files, if an address says so."""
         told = DONE.get(given.get("done", b"").decode("latin-1"))
         count = given.get("count", b"")
         return told and told.format(counted(int(count) if re.fullmatch(rb"[0-9]{1,6}", count) else 1, "file"))
@@ -353,7 +353,7 @@ class Site:
 
     def download(self, given: Fields) -> Answer:
         file, _, content = self.image.file(given.get("name", b""))
-        # A file's name has letters, digits and six signs, none of which a header knows.
+        # A file's name has letters, digits and six signs, none of which is special in a header.
         return Answer(200, BYTES, content, (("Content-Disposition", f'attachment; filename="{file.name.decode()}"'),))
 
     def removing(self, given: Fields) -> Answer:
