@@ -1,6 +1,6 @@
 """What the tests of the tools share: the path on which they find the package, options and fixtures.
 
-A test runs in an empty folder, which is removed after it. It has a cache and memories of its own, and servers that it started end with it.
+A test runs in an empty folder, which is removed after it. It has a separate cache and memories, and servers that it started end with it.
 """
 import os
 import shutil
@@ -26,7 +26,7 @@ from support.waiting import hear, with_an_end  # noqa: E402
 from support.web import web_folder, web_mixed, web_program, web_reading, web_writing  # noqa: E402, F401
 
 ENDING = (signal.SIGTERM, signal.SIGINT, signal.SIGHUP)
-# Of programs whose Debian package has another name.
+# Programs whose Debian package has another name.
 PACKAGES = {"cp": "coreutils", "dd": "coreutils", "df": "coreutils", "install": "coreutils", "ln": "coreutils", "mv": "coreutils", "rm": "coreutils",
             "sort": "coreutils", "touch": "coreutils", "truncate": "coreutils", "find": "findutils"}
 
@@ -53,11 +53,11 @@ class Held:
 
 def pytest_configure(config):
     config.addinivalue_line("markers", "limits(files, words, blocks[, version]): of the image of a test")
-    # The Python that runs the tests runs the tools too, since it has their packages; and no launcher of Pythons comes in between.
+    # The Python that runs the tests runs the tools too, since it has their packages; and no launcher of Pythons comes first on the path.
     os.environ["PATH"] = os.pathsep.join([os.path.dirname(sys.executable), os.environ["PATH"]])
-    # So that what a test starts hears them, and what it ends by them ends.
+    # So that processes that a test starts receive these signals, and end by them.
     hear(*ENDING)
-    # So that terminals and what runs in them end too.
+    # So that terminals and the processes in them end too.
     signal.signal(signal.SIGTERM, lambda *_: pytest.exit("ended by SIGTERM", 1))
     if config.getoption("--asserts"):
         config.pluginmanager.register(Held())
@@ -82,7 +82,7 @@ def count(request):
 
 @pytest.fixture(autouse=True)
 def folder(monkeypatch):
-    """An empty folder, where the test runs. Its path is short enough for a socket in it, and other users may go there."""
+    """An empty folder, where the test runs. Its path is short enough for a socket in it, and other users may enter it."""
     top = tempfile.mkdtemp()
     at = os.path.join(top, "work")
     os.mkdir(at)
@@ -94,7 +94,7 @@ def folder(monkeypatch):
     os.chdir(at)
     yield at
     os.chdir(before)
-    # Of a test that failed.
+    # Left by a test that failed.
     for mounted in mounts_below(top):
         attach.detach(mounted)
     for path, folders, _ in os.walk(top):
@@ -111,7 +111,7 @@ def mounts_below(top):
 
 @pytest.fixture(autouse=True)
 def an_end(folder):
-    """A test that has no end fails, and what it started ends."""
+    """A test without an end fails, and what it started ends."""
     with none_left(), with_an_end():
         yield
 
@@ -126,7 +126,7 @@ def program():
 
 @pytest.fixture
 def image(request, program, folder):
-    """The name of an image, which has the limits of the test's mark `limits`, and else small ones."""
+    """The name of an image, which has the limits of the test's mark `limits`, or else small ones."""
     mark = request.node.get_closest_marker("limits")
     return make("image", mark.args if mark else SMALL)
 
@@ -148,13 +148,13 @@ def served(image, rooms):
 
 @pytest.fixture
 def at_terminal(program):
-    """Starts the prompt at a terminal, in a `with` block, with more of an environment."""
+    """Starts the prompt at a terminal, in a `with` block, with more environment variables."""
     return lambda **more: Terminal([support.tool("shell"), "image"], **more)
 
 
 @pytest.fixture(scope="session")
 def fuse():
-    """Nothing, where a folder can be mounted."""
+    """Skips the test if no folder can be mounted."""
     folder = tempfile.mkdtemp()
     try:
         os.close(attach.mounted(folder, "trial"))
@@ -175,14 +175,14 @@ def mutagen():
 
 @pytest.fixture
 def root():
-    """Nothing, where the test may take on another user."""
+    """Skips the test if it may not become another user."""
     if os.getuid():
         pytest.skip("only root can become another user (Debian's sudo)")
 
 
 @pytest.fixture
 def needs(request):
-    """Skips the test where a program is missing."""
+    """Skips the test if a program is missing."""
     def look(*programs):
         if lacking := [name for name in programs if not shutil.which(name)]:
             packages = sorted({PACKAGES.get(name, name) for name in lacking})

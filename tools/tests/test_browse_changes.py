@@ -1,4 +1,4 @@
-"""What `tools/browse` changes by its forms, and how it keeps in step with the image, and ends."""
+"""What `tools/browse` changes by its forms, how its state follows the image, and how it ends."""
 import contextlib
 import os
 import random
@@ -28,7 +28,7 @@ ALL = b"\r\n--edge\n\r--edg\r\n\0\xff" + bytes(range(256)) * 200
 
 @pytest.fixture
 def small(web_folder):
-    """Pages of a small image, which may change it, and who sends their forms."""
+    """Pages of a small image, which may change it, and a client that sends their forms."""
     with Browsed(make("image", b"mkdir music\nmkdir live\nmkdir year:\ncreate song music\ncreate todo\n", SMALL), "--write") as browsed:
         yield browsed, Visitor(browsed)
 
@@ -51,7 +51,7 @@ BETWEEN = (
     ("declare", {"word": "size>=1", "at": "/", "to": "declared"}, "size>=1"))
 AFTER = (
     ("undeclare", {"word": "size>=1"}, "declared no more"), ("unaxiom", {"left": "live", "right": "music"}, "holds no more"))
-# Files that are uploaded: the fields, the bytes, the name elsewhere, and the name that each gets.
+# Uploaded files: the fields, the bytes, the name elsewhere, and the name that each gets.
 FILES = (
     ({"words": "music"}, b"text\n", b"/tmp/a b.txt", b"a_b.txt"), ({"name": "bytes"}, ALL, b"x", b"bytes"), ({}, MAIL, b"mail.eml", b"mail.eml"),
     ({"name": "nothing", "words": " year:1999  year:1999"}, b"", b"", b"nothing"))
@@ -94,7 +94,7 @@ def test_a_full_image(small):
 
 @pytest.fixture(scope="module")
 def refusing(web_program, tmp_path_factory):
-    """Pages of an image with little room left, and who sends their forms; at the end the image is as before."""
+    """Pages of an image with little room left, and a client that sends their forms; at the end the image is as before."""
     lines = (b"mkdir music\nmkdir live\nmkdir year:\ncreate song live year:2003\ncreate todo\naxiom live music\n" + adding(b"a_b.txt", b"text\n")
              + adding(b"most", b"x" * 65_536))
     image = make(str(tmp_path_factory.mktemp("refusing") / "image"), lines, SMALL)
@@ -134,7 +134,7 @@ def test_refused_upload(refusing, given, content, filename, status):
     assert answer.status == status, answer.data[-300:]
 
 
-# In step with the image.
+# Following the image.
 
 @contextlib.contextmanager
 def open_image(image):
@@ -150,7 +150,7 @@ CHANGED_NAMES = [b"song%d" % k for k in range(6)] + [b"x%d.c" % k for k in range
 
 
 def random_change(image, chance):
-    """One change, which may be refused. Whether it was done."""
+    """One change, which may be refused. Returns whether it was made."""
     name, other, word, right = (chance.choice(choices) for choices in (CHANGED_NAMES, CHANGED_NAMES, CHANGED_WORDS, CHANGED_WORDS))
     place = Place(chance.choice((b"/", b"music", b"music/live", b"year:1999", b"!music", b"jazz")))
     content = chance.choice((b"", b"text", b"#include <a.h>\nint f(void) { }\n" * 9))
@@ -171,8 +171,8 @@ def words_by_program(image):
 
 
 def test_random_changes(web_folder):
-    """Refused ones among them: behind each the index has the words that the program tells of each file, and at the end what was given, declared
-    and said is what the image holds."""
+    """Some changes are refused. After each, the index has the words that the program shows for each file, and at the end the given and declared words
+    and the axioms are those of the image."""
     make("image", MIXED)
     chance, done = random.Random(5), 0
     with open_image("image") as image:
@@ -203,7 +203,7 @@ def test_a_wrong_index_is_made_anew(web_folder):
 
 
 def test_a_listing_of_another_program(web_folder):
-    """Where the program says another thing than the index that was just made, that is told."""
+    """If the program disagrees with the index that was just made, the page says so."""
     with open_image(make("image", MIXED)) as image:
         real, image.told = image.told, lambda *commands: real(*commands) if commands[0][0] != b"cd" else (
             [], real((b"pwd",))[0], [(b"d", b"music"), (b"d", b"nosuch")], [])
@@ -213,7 +213,7 @@ def test_a_listing_of_another_program(web_folder):
         image.look(b"/")
 
 
-# What goes wrong in a page, or below it, is one page, and no end.
+# An error in a page, or below it, affects one page, and does not end the tool.
 
 @pytest.fixture
 def mistaken(web_folder):
@@ -248,7 +248,7 @@ def running_children():
 
 
 def test_a_program_that_replies_nonsense(mistaken, monkeypatch):
-    """It is ended."""
+    """The program is ended."""
     image, pages, request = mistaken
     before = running_children()
     monkeypatch.setattr(image, "told", raising(NotAReply("x")))
@@ -257,7 +257,7 @@ def test_a_program_that_replies_nonsense(mistaken, monkeypatch):
     assert len(before - running_children()) == 1
 
 
-# Its ends, and the program's.
+# The ends of the tool, and of the program.
 
 @pytest.fixture
 def one_file(web_folder):
@@ -280,7 +280,7 @@ def test_killed(one_file):
 
 
 def test_a_program_that_was_killed(one_file):
-    """It is told on one clear page."""
+    """One clear page reports it."""
     with Browsed(one_file, "--write") as browsed:
         visitor = Visitor(browsed)
         token = visitor.token()
@@ -323,8 +323,8 @@ def test_no_program(one_file):
 
 
 def test_no_package(one_file):
-    """What is missing is said with Debian's package."""
-    # Without `site` Python finds its own modules alone.
+    """A missing package is named as Debian's package."""
+    # Without `site` Python finds only its own modules.
     told = subprocess.run([sys.executable, "-S", visitors.BROWSE, one_file], capture_output=True, text=True, check=False, stdin=subprocess.DEVNULL,
                           timeout=LONG)
     assert (told.returncode, told.stderr) == (1, "browse: jinja2 is missing: apt-get install python3-jinja2\n")

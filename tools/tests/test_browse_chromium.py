@@ -1,4 +1,4 @@
-"""The pages of `tools/browse` in a real browser: by clicks and by keys, with a script and without one, and beside a page from elsewhere."""
+"""The pages of `tools/browse` in a real browser: by mouse and by keyboard, with a script and without one, and together with a page from elsewhere."""
 import os
 import re
 import struct
@@ -24,14 +24,14 @@ def browser():
 
 @pytest.fixture(scope="module")
 def browsed(web_program, browser):
-    """Pages that may change an image of files of all kinds. Each test changes files that no other one looks at."""
+    """Pages that may change an image of files of all kinds. Each test changes separate files."""
     with in_memory() as folder, Browsed(make(os.path.join(folder, "image"), MIXED), "--write") as tool:
         yield tool
 
 
 @pytest.fixture
 def page(browser, browsed, web_folder):
-    """A browser that shows the first page. At the end it has nothing to complain of, and has asked for nothing elsewhere."""
+    """A browser that shows the first page. At the end it has no complaints, and has requested nothing elsewhere."""
     start(browser, browsed)
     yield browser
     told = browser.told()
@@ -50,7 +50,7 @@ def start(browser, browsed):
 
 
 def at(page, place):
-    """Goes to a place by the field for one."""
+    """Goes to a place by the formula field."""
     page.value("document.getElementById('at').select()")
     page.click("#at", leads=False)
     page.value("document.getElementById('at').select()")
@@ -65,7 +65,7 @@ def search(page):
 # What pages look like.
 
 def size_of(path):
-    """The width and height of a picture, and how many colours its rows of bytes show, roughly: an empty page has few."""
+    """The width and height of a picture, and roughly how many colours its rows of bytes show: an empty page has few."""
     with open(path, "rb") as file:
         data = file.read()
     width, height = struct.unpack(">II", data[16:24])
@@ -98,14 +98,14 @@ def test_picture(page, name, place, clicks):
     assert page.value("document.querySelectorAll('h1').length") == 1
 
 
-# A walk.
+# A walk through the pages.
 
 def test_the_token_is_not_in_the_address_bar(page):
     assert "token" not in page.value("location.href") and page.value("document.cookie") == ""
 
 
 def test_by_keys(page):
-    """From the root to a place by keys alone."""
+    """From the root to a place by keyboard alone."""
     page.press("Tab")
     assert page.value("document.activeElement.className") == "skip"
     page.press("Enter")
@@ -131,7 +131,7 @@ def test_steps(page):
 
 
 def test_filter(page):
-    """While one types into it, the words are found; and so by Enter."""
+    """Words are found while one types into it, and by Enter."""
     at(page, "music")
     page.press("/")
     assert page.value("document.activeElement.id") == "q", page.value("document.activeElement.outerHTML")
@@ -143,7 +143,7 @@ def test_filter(page):
 
 
 def show(page, name="evil.txt"):
-    """The page of a file, by clicks, from the first page: one that was made to do harm, or another one of music."""
+    """The page of a file, by clicks, from the first page: a hostile one, or another piece of music."""
     page.click(".card a", "music")
     page.click("main h1 + p a")
     page.click(".files a", name)
@@ -176,7 +176,7 @@ CHOSEN = "document.querySelectorAll('td.choice input:checked').length"
 
 
 def test_files_chosen(page):
-    """One box chooses all files of a page, also of one that a filter has found; they are tagged, and that is undone."""
+    """One box chooses all files of a page, also of a filtered one; they are tagged, and that is undone."""
     page.click(".card a", "music")
     page.click("main h1 + p a")
     count = page.value("document.querySelectorAll('td.choice input').length")
@@ -273,7 +273,7 @@ def test_a_link_elsewhere(elsewhere):
 
 
 def test_without_a_script(page, browsed):
-    """All works without one too."""
+    """Everything works without a script too."""
     page.ask("Emulation.setScriptExecutionDisabled", value=True)
     try:
         page.open(browsed.address)

@@ -1,4 +1,4 @@
-"""`tools/browse`: how many clients are served at once. Slow ones, and very many, hold up nobody. No image is needed here."""
+"""`tools/browse`: how many clients are served at once. Slow ones, and very many, delay nobody. No image is needed here."""
 import contextlib
 import os
 import socket
@@ -12,7 +12,7 @@ from support.web import connected, raw, whole
 
 
 class Still:
-    """A site that answers what it is asked, without an image."""
+    """A site that answers requests, without an image."""
     can_write = False
 
     def __init__(self):
@@ -33,7 +33,7 @@ class Still:
 
 @pytest.fixture
 def serving(request, monkeypatch):
-    """A server of such a site in a thread, and where it listens. It takes as many connections as the mark `most` says."""
+    """A server of such a site in a thread, and where it listens. It accepts as many connections as the mark `most` says."""
     for name in ("REQUEST", "ANSWER", "END"):
         monkeypatch.setattr(connections, name, LONG)
     monkeypatch.setattr(connections, "MOST", getattr(request, "param", connections.MOST))
@@ -80,11 +80,11 @@ def is_of(known, client):
 
 @pytest.mark.parametrize("serving", (8,), indirect=True)
 def test_crowded(serving):
-    """Where all connections are taken, one without an admitted request makes room, and none that is older and has one."""
+    """If all connections are taken, one without an admitted request makes room, and no older one that has one."""
     server, port = serving
     with contextlib.ExitStack() as opened:
         def taken_in(data, wanted=lambda connection: True):
-            """A connection that the server has taken in as it is to be."""
+            """A connection that the server has accepted in the expected state."""
             one = opened.enter_context(connected(port, data))
             assert until(lambda: any(is_of(known, one) and wanted(known) for known in list(server.open.values()))), data
             return one
@@ -94,7 +94,7 @@ def test_crowded(serving):
         for data in [b"", b"GET / HTTP", b"wrong\r\n\r\n"] * 8:
             taken_in(data)
             assert len(server.open) <= 8
-        # Who asks beside them; a slow request that was admitted before them; an answer that is taken slowly.
+        # Other clients; a slow request that was admitted before them; an answer that is read slowly.
         assert raw(port, b"x\r\n\r\n").rpartition(b"\r\n\r\n")[2] == b"x"
         slow.sendall(b"cde")
         assert whole(slow).rpartition(b"\r\n\r\n")[2] == b"abcde"

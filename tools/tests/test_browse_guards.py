@@ -1,5 +1,5 @@
-"""Who may ask `tools/browse`, and what: who has not the token, comes from elsewhere, or sends what is no request, is refused, and holds up
-nobody."""
+"""Who may send requests to `tools/browse`, and which: a client without the token, one from elsewhere, or one that sends no valid request is refused,
+and delays nobody."""
 import contextlib
 import random
 import urllib.parse
@@ -74,7 +74,7 @@ def test_who_may_ask(web_reading, web_writing, status, method, path, headers):
     assert answer.status == status and (status != 403 or len(answer.data) < 2_000), answer.data[:200]
 
 
-# A form is taken from its own page alone.
+# A form is accepted only from its own page.
 
 PLAIN = {"Content_Type": "application/x-www-form-urlencoded"}
 GOOD = "token={token}&name=f&other=g"
@@ -127,7 +127,7 @@ def test_the_right_form(web_writing):
 
 @pytest.fixture(scope="module")
 def large(web_program, tmp_path_factory):
-    """Pages of an image, which may change it, and who asks for them; at the end they have taken little memory."""
+    """Pages of an image, which may change it, and a client for them; at the end they have used little memory."""
     with Browsed(make(str(tmp_path_factory.mktemp("large") / "image"), MIXED), "--write") as browsed:
         yield browsed, Visitor(browsed)
         assert browsed.memory() < 300
@@ -174,7 +174,7 @@ def test_who_sends_all_before_it_reads_sees_the_answer(large, page, size):
 
 @pytest.fixture
 def crowd(large):
-    """Connections of which nothing comes, or half a request, and some that take no answer; and how more are made."""
+    """Connections on which nothing comes, or half a request, and some that read no answer; and a function that makes more."""
     browsed, visitor = large
     good = good_request(visitor)
     with contextlib.ExitStack() as opened:
@@ -204,7 +204,7 @@ def test_a_page_beside_hundreds_that_wait(large, crowd):
     assert threads_of(browsed.process.pid) == 1
 
 
-# Who asks beside an upload, or for what was uploaded, waits no longer than others may wait, whatever is in the file.
+# Requests during an upload, or for what was uploaded, wait no longer than others may wait, whatever is in the file.
 
 def filled(begin, piece, end=b"\n\n"):
     """As many bytes as a file may have."""
@@ -212,7 +212,7 @@ def filled(begin, piece, end=b"\n\n"):
 
 
 def numbered(form):
-    """Forty-eight pieces, each with a number of its own."""
+    """Forty-eight pieces, each with a unique number."""
     return b"".join(form % number for number in range(48))
 
 
@@ -233,10 +233,10 @@ UPLOADS = {
 
 @pytest.fixture(scope="module")
 def beside(web_program, tmp_path_factory):
-    """Pages which take uploads, and who sends them."""
+    """Pages that accept uploads, and a client that sends them."""
     with open(web_program, "rb") as program:
         if b"__asan_" in program.read():
-            # Then it takes a hundred times as long and more.
+            # In that case it takes more than a hundred times as long.
             pytest.skip("the program has checks at run time")
     image = make(str(tmp_path_factory.mktemp("beside") / "image"), MIXED, ("256", "1024", "900", "v2"))
     with Browsed(image, "--write") as browsed:
@@ -259,7 +259,7 @@ def test_upload(beside, title):
 
 
 def goods_of(visitor):
-    """Requests that are right."""
+    """Valid requests."""
     token, top = visitor.token()["token"], visitor.top.encode()
     host = f"Host: {visitor.host}\r\nOrigin: http://{visitor.host}\r\nCookie: {visitor.cookie}\r\n".encode()
     upload = (b'--edge\r\nContent-Disposition: form-data; name="token"\r\n\r\n%s\r\n--edge\r\nContent-Disposition: form-data; name="file"; '
@@ -275,7 +275,7 @@ def goods_of(visitor):
 
 
 def test_damaged_requests(web_folder):
-    """By chance: each is answered or closed, none is a mistake of the pages, and the next good one is served."""
+    """Random damage: each request is answered or closed, none causes an internal error, and the next good one is served."""
     chance, statuses = random.Random(11), set()
     with Browsed(make("image", MIXED), "--write") as browsed:
         visitor = Visitor(browsed)

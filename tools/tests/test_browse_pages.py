@@ -51,7 +51,7 @@ def test_a_search_that_misses_none(cut_words):
 
 @pytest.fixture(scope="module")
 def listings(web_mixed):
-    """Of each place the words that its pages show with their counts, and how many files they say it has."""
+    """For each place the words that its pages show with their counts, and how many files they say it has."""
     told, whole = {}, {}
     with Browsed(web_mixed) as browsed:
         visitor = Visitor(browsed)
@@ -102,7 +102,7 @@ def test_a_formula_with_blanks(visitor, typed, wanted):
 
 @pytest.fixture(scope="module")
 def visitor(web_mixed, listings):
-    """Who asks for pages of the image, after who had it alone."""
+    """A client for the pages of the image, after another one had it alone."""
     with Browsed(web_mixed) as browsed:
         yield Visitor(browsed)
 
@@ -111,7 +111,7 @@ def visitor(web_mixed, listings):
     (b"music/subject:pla", ["music/subject:plan"]), (b"!year:/subject:PLA", ["!year:/subject:plan"]),
     (b"subject:number", [f"subject:number{number}" for number in (0, 1, 10, 11, 12)]), (b"subject:nosuch", []), (b"nosuch", [])))
 def test_values_that_begin_so(visitor, typed, meant):
-    """A value that no file has leads to those that begin so, five at most."""
+    """A value that no file has leads to those that begin with it, five at most."""
     seen = visitor.page(at=typed, status=404)
     assert [label for _, label, _ in seen.links if label.startswith(("music/", "!", "subject:"))] == meant
     assert all(leads(seen, formula) == f"./?at={formula}" for formula in meant) and ("Did you mean" in seen.text) == bool(meant)
@@ -120,7 +120,7 @@ def test_values_that_begin_so(visitor, typed, meant):
 @pytest.mark.parametrize("typed, wanted, told", (
     (b"music|nosuch", "music", "nosuch: no file has this word"), (b"year:7|!(x:y|live)/music", "!live/music", "year:7, x:y: no file has these words")))
 def test_a_word_that_no_file_has(visitor, typed, wanted, told):
-    """Beside `|` it is left out, which a line says."""
+    """Beside `|` it is left out, and a line says so."""
     seen, plain = visitor.page(at=typed), visitor.page(at=wanted)
     assert f"{told}, so the formula is `{wanted}`." in seen.text and seen.counts() == plain.counts() and seen.links == plain.links
 

@@ -1,4 +1,4 @@
-"""The parts of `tools/browse` by themselves: places, rows, texts, templates, and what the longest files take."""
+"""The parts of `tools/browse` separately: places, rows, texts, templates, and the time that the longest files take."""
 import glob
 import os
 import random
@@ -51,14 +51,14 @@ def test_no_place(text):
         Place(text).files(Index())
 
 
-# Rows of bits beside sets.
+# Rows of bits compared with sets.
 
 WORDS = [b"w%d" % number for number in range(12)]
 
 
 @pytest.fixture(scope="module")
 def described():
-    """An index after random changes, and of each file its size and its words."""
+    """An index after random changes, and the size and the words of each file."""
     chance, index, files = random.Random(7), Index(), {}
     for turn in range(3_000):
         name, kind, has = b"n%d" % chance.randrange(60), chance.randrange(4), frozenset(chance.sample(WORDS, chance.randrange(6)))
@@ -97,7 +97,7 @@ def test_all_rows(described):
 # What is shown of bytes: always text.
 
 def shown(source, **given):
-    """What a template of this source makes."""
+    """The result of a template with this source."""
     return markup.environment().from_string(source).render(given)
 
 
@@ -134,7 +134,7 @@ TEMPLATES = {os.path.basename(path): path for path in glob.glob(os.path.join(WEB
 
 @pytest.mark.parametrize("name", sorted(TEMPLATES))
 def test_template_escapes(name):
-    """Each template is one of those that are escaped, none turns that off, and each attribute that shows a value stands in quotes."""
+    """Each template is escaped, none turns that off, and each attribute that shows a value is in quotes."""
     assert name in markup.environment().list_templates() and name.endswith(".html")
     with open(TEMPLATES[name], encoding="utf-8") as file:
         source = re.sub(r"\{#.*?#\}|\{%.*?%\}", "", file.read(), flags=re.S)
@@ -148,7 +148,7 @@ def test_template_escapes(name):
 
 
 def test_no_markup_of_python():
-    """What is no template makes no markup."""
+    """What is not a template makes no markup."""
     assert markup.environment().autoescape is True
     for path in glob.glob(os.path.join(WEB, "*.py")):
         with open(path, encoding="utf-8") as file:
@@ -185,7 +185,7 @@ def test_sentence(number):
     assert (REFUSALS[number].sentence is not None) == (number < 26) and told.endswith("."), told
 
 
-# What a page takes.
+# The time of a page.
 
 @pytest.mark.parametrize("as_text", (False, True), ids=("shown", "as text"))
 @pytest.mark.parametrize("title", HOSTILE_MAILS)

@@ -29,14 +29,14 @@ def dump():
 
 
 def given_to(visitor, *names):
-    """The words that the pages of files say they were given."""
+    """The words that files were given, as their pages say."""
     return [sorted(form["word"] for action, form in visitor.page("file", name=name).forms if action == "take") for name in names]
 
 
-# Files that are chosen.
+# Chosen files.
 
 def test_boxes(visitor):
-    """Each page that lists files has a box for each, and one form for those that are chosen."""
+    """Each page that lists files has a box for each, and one form for the chosen files."""
     for page, count, first in (("", 100, "f000"), ("files", 100, "f000"), ("rest", 100, "f000")):
         seen = visitor.page(page, at="/")
         assert len(seen.boxes) == count and seen.boxes[0] == ("chosen", first, "several"), page
@@ -52,7 +52,7 @@ def test_without_write(web_folder):
 
 
 def test_many_at_once(browsed, visitor):
-    """All files of a page, those that have the word already among them."""
+    """All files of a page, including those that already have the word."""
     token, names = visitor.token(), [f"f{k:03}" for k in range(99)]
     visitor.does("tag", {**token, "at": "/", "word": "live", "chosen": [*names, "song"]}, True, "The word was given to 100 files.")
     assert visitor.page().counts()[b"live"] == 100
@@ -141,7 +141,7 @@ def test_undo_of_an_upload(visitor):
 
 
 def test_undo_of_a_removal_with_many_words(browsed, visitor):
-    """The bytes and all words are there again."""
+    """The bytes and all words are restored."""
     token = visitor.token()
     words = [f"year:{k:055}" for k in range(15)]
     assert visitor.upload({**token, "at": "/", "words": "live"}, BYTES, b"n" * 60).status == 303
@@ -205,7 +205,7 @@ def cut(web_folder):
 
 
 def test_words_that_are_cut(cut):
-    """The page of the file says how many, and each page of a listing once that a search can miss it."""
+    """The page of the file says how many, and each page of a listing says once that a search can miss it."""
     assert f"{MAX_DERIVED} of at least 202 words" in cut.page("file", name="long.eml").text
     assert "of at least" not in cut.page("file", name="short.eml").text
     miss = "can miss such a file"

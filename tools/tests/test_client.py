@@ -1,4 +1,4 @@
-"""`lisfs.client`: over a made-up program that shows what it is told to show."""
+"""`lisfs.client` with a fake program that shows what the test wants."""
 import os
 import select
 import signal
@@ -15,7 +15,7 @@ from support import images, with_package
 from support.replies import CONTENTS, DONE, told_by
 from support.waiting import children, is_full, rest, unread, until
 
-# It keeps files in memory, and takes commands of its own: how it replies in pieces, ends, or shows what is no reply.
+# It keeps files in memory, and has its own commands: reply in pieces, end, or show what is no reply.
 MADE_UP = r'''
 import os, sys, time
 files, words = {}, sys.argv[1:]
@@ -134,14 +134,14 @@ def test_two_replies():
 
 @pytest.fixture
 def deaf():
-    """A program that takes nothing."""
+    """A program that reads nothing."""
     program = made_up("deaf")
     yield program
     program.kill()
 
 
 LONG = b"w" * 60
-# Words, and the payload behind them, that are no line of the program.
+# Words, and the payload after them, that are no line of the program.
 NOT_SENT = (((), None), ((b"",), None), ((b"mkdir", b""), None), ((b"mkdir", b"a b"), None), ((b"mkdir", b"a\nrm"), None), ((b"cd", b"a\t"), None),
             ((b"mkdir", b"a\r"), None), ((b"mkdir a",), None), ((b"x" * 1025,), None), ((b"add", b"a", b"1"), None), ((b"write", b"a", b"0"), None),
             ((b"ls",), b""), ((b"add", b"a"), b"x"), ((b"add", b"a", b"x"), b"x"), ((b"add", b"a", b"0" * 13), b""), ((b"add", b"a", b"1"), b""),
@@ -220,7 +220,7 @@ def test_an_error_of_the_block_is_told():
         raise KeyError("mine")
 
 
-# Of programs that take no commands.
+# Programs that take no commands.
 
 def test_a_program_that_is_no_session():
     assert told_by(Program(["true"]).close) is None, "its end"
@@ -258,7 +258,7 @@ def reading(script, error=None, size=-1):
 
 
 def test_ahead():
-    """Commands before the first read, where the program shows more than a pipe takes, and says more than a pipe takes."""
+    """Commands before the first read, if the program shows and says more than a pipe holds."""
     with made_up() as program:
         for number in range(100):
             program.add(b"%03d" % number + b"x" * 57, b"")
@@ -384,7 +384,7 @@ def test_what_is_kept_goes_out_later():
 
 
 LARGE = bytes(MAX_PAYLOAD + 1)
-# An input, its commands, and how it ends: whole, within a line or behind a payload, or within a payload.
+# An input, its commands, and how it ends: complete, within a line or after a payload, or within a payload.
 WHOLE, LACKS_FEED, IS_CUT = (False, False), (False, True), (True, False)
 INPUTS = (
     (b"", [], WHOLE), (b"ls\n", [b"ls\n"], WHOLE), (b"ls", [], LACKS_FEED), (b"\n \t\n\r\n \r\nls\n", [b"ls\n"], WHOLE), (b" ", [], LACKS_FEED),
@@ -455,7 +455,7 @@ def test_what_has_no_end(begin, least, most):
     assert least <= len(cut._given) <= most, "little is kept"
 
 
-# It shows and says what the file `told` has, and ends with its status. Of `put` it keeps the input.
+# It shows and says what the file `told` has, and exits with its status. For `put` it keeps the input.
 SHOWS = r'''#!/bin/sh
 . ./told
 if [ "$1" = put ]; then cat > put; fi
@@ -467,7 +467,7 @@ exit "$status"
 
 @pytest.fixture
 def told(monkeypatch):
-    """Says what the program shows, with which status it ends, and what it says."""
+    """Sets what the program shows, its status, and what it says."""
     def tell(shown, status=0, said=""):
         with open("told", "w", encoding="ascii") as file:
             file.write(f"shown='{shown}'\nstatus={status}\nsaid='{said}'\n")
@@ -527,7 +527,7 @@ while True:
 
 
 def test_killed_sender():
-    """A sender that is killed while the program takes no more leaves whole lines behind, and no half one."""
+    """A sender that is killed while the program reads no more input leaves whole lines, and no half line."""
     copier = "while [ ! -e go ]; do sleep 0.01; done; cat > got; touch done"
     sender = subprocess.Popen([sys.executable, "-c", SENDER, "sh", "-c", copier], stdout=subprocess.PIPE, env=with_package())
     taker = until(lambda: children(sender.pid))[0]
@@ -544,7 +544,7 @@ def test_killed_sender():
 
 
 def test_cut_off():
-    """A command that was not sent to its end, as where somebody pressed Ctrl-C, is not completed by the next one."""
+    """A command that was not sent to its end, as after Ctrl-C, is not completed by the next one."""
     program, interrupted = made_up("deaf"), []
 
     def interrupt(*_):
@@ -553,7 +553,7 @@ def test_cut_off():
             raise KeyboardInterrupt
 
     def press():
-        # In the middle of it, since all of it is never taken. A signal just ahead of a wait doesn't end the wait, so there are more.
+        # In the middle of it, since all of it is never read. A signal just before a wait doesn't end the wait, so several are sent.
         until(lambda: is_full(program._child.pid))
         until(lambda: interrupted or signal.pthread_kill(threading.main_thread().ident, signal.SIGUSR1))
 
@@ -579,7 +579,7 @@ def heard():
 
 
 def test_unheard(heard, monkeypatch):
-    """A program doesn't hear the signals that it is not to hear. They are ours, also those that come while it is started."""
+    """A program doesn't receive the `unheard` signals. They are for this process, even those that come while it is started."""
     start = subprocess.Popen
 
     def started(*words, **more):

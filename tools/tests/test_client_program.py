@@ -97,7 +97,7 @@ def test_refusals(image):
         for number in range(63):
             program.create(b"n%d" % number)
         assert told_by(program.create, b"x") == (Refused, 21, "no file room"), "refusal 21"
-        # Unlinked pairs, until there are as many axioms as may be.
+        # Unlinked pairs, up to the most axioms.
         for k in range(192 - 129):
             program.axiom(words[k], words[k + 2])
         assert told_by(program.axiom, words[0], words[9]) == (Refused, 23, "no axiom room"), "refusal 23"
@@ -142,12 +142,12 @@ def test_a_locked_image(image):
 
 @pytest.mark.limits("64", "64", "300", "v2")
 def test_kill(image):
-    """The program is killed in the middle of a reply: what was replied to is kept."""
+    """The program is killed in the middle of a reply: what was replied to is durable."""
     program = images.session(image)
     content = os.urandom(MAX_PAYLOAD)
     program.add(b"x", content)
     program.send(b"cat", b"x")
-    # More than a pipe takes, so that it stands in the middle of this reply.
+    # More than a pipe holds, so that it is in the middle of this reply.
     assert until(lambda: unread(program.fileno())), "some of it is shown"
     os.kill(program._child.pid, signal.SIGKILL)
     assert told_by(program.receive) == (Ended, -signal.SIGKILL, ""), "a kill in the middle of a reply"
@@ -168,7 +168,7 @@ def test_ahead_of_the_program(image):
 
 @pytest.mark.limits("64", "64", "300", "v2")
 def test_rooms_of_the_program(image, rooms):
-    """The tables of `rooms`: each room has a place of its own, and what has no room is told."""
+    """The tables of `rooms`: each room has a separate place, and a line without a room is reported."""
     with Program([PROGRAM, "rooms", image], rooms=True) as program:
         first, second, last = program.room(0), program.room(1), program.room(7)
         for number, (call, words, wanted) in enumerate((
@@ -201,6 +201,6 @@ def test_rooms_of_the_program(image, rooms):
 
 
 def test_differential(program, count):
-    """Sessions by chance: what the client makes of an input has the replies of `run`, or of `rooms`, and leaves the same files."""
+    """Random sessions: what the client makes of an input has the replies of `run`, or of `rooms`, and leaves the same files."""
     for number, found in enumerate(runs.side_by_side(inputs.differences, range(count))):
         assert not found, (f"session {number}", found)

@@ -36,7 +36,7 @@ def test_tags(program):
 
 
 def test_what_is_refused(program):
-    """Other files are changed all the same, until who asks says otherwise."""
+    """Other files are changed nevertheless, until the caller decides otherwise."""
     words = [b"w%02d" % number for number in range(MAX_ASSIGNED)]
     make(script=TAKEN + b"".join(b"mkdir %b\n" % word for word in words) + b"create full %b\n" % b" ".join(words))
     files = {b"full": set(words), b"gone": set(), **GIVEN}
@@ -61,7 +61,7 @@ def test_nothing_is_sent(program, word):
 
 
 def test_many_long_words(program):
-    """More than a line has room for."""
+    """More than fit a line."""
     words = [b"w%02d" % number + b"x" * 57 for number in range(MAX_ASSIGNED)]
     make(script=b"".join(b"mkdir %b\n" % word for word in words) + b"create %b\n" % (b"n" * 60))
     before = dump()

@@ -1,4 +1,4 @@
-"""`tools/edit`: editors that are scripts, over real images, and over a made-up program that fails as it is told."""
+"""`tools/edit`: editors that are scripts, over real images, and with a fake program that fails as it is told."""
 import fcntl
 import os
 import re
@@ -24,7 +24,7 @@ NOT_WRITTEN, NOT_KNOWN = "nothing was written", "it is not known whether it was 
 KEPT = re.compile(r"edit: (.*): ([^:]*), and the edited text is in (.*)\n")
 LEFT = re.compile(r"edit: (.*): nothing was written, and what the editor left is at (.*)\n")
 EMPTIED = "notes.txt: the editor left an empty file, and only `lisfs put` removes all shown lines"
-# What an editor does, in Python: `path` is the file that it is given, and `text` what is in it.
+# The Python code of an editor: `path` is the file that it gets, and `text` its contents.
 SEE = "open('seen', 'wb').write(text)\n"
 ADD = "open(path, 'wb').write(b'+alpha zero\\n' + text)\n"
 ADDED = b"+alpha zero\n" + VIEW
@@ -50,13 +50,13 @@ def notes(with_views, folder):
 
 
 def editor(does, script="editor"):
-    """The command of an editor that does this."""
+    """The command of an editor that runs this code."""
     written(script, b"import os, signal, subprocess, sys\npath = sys.argv[-1]\ntext = open(path, 'rb').read()\n" + does.encode())
     return shlex.join([sys.executable, os.path.abspath(script)])
 
 
 def edit(does="", name="notes.txt", formula="word:alpha", image="image", data=b"", **environment):
-    """How an edit ends in which the editor does this."""
+    """How an edit ends whose editor runs this code."""
     given = {key: value for key, value in os.environ.items() if key not in ("VISUAL", "EDITOR")}
     given |= {"EDITOR": editor(does), "TMPDIR": os.path.abspath("drafts"), **environment}
     return runs.run(EDIT, [image, name, formula], data, env=given)
@@ -70,7 +70,7 @@ def make(image="image", text=NOTES, limits=("64", "64", "16")):
 
 
 def file_in(image="image"):
-    """The bytes of the file, or None where it isn't there."""
+    """The bytes of the file, or None if it is missing."""
     try:
         with images.session(image) as program:
             return program.cat(b"notes.txt").body
@@ -92,7 +92,7 @@ def done(name, ran, error="", out=b""):
 
 
 def keeps(name, ran, cause, text, done=NOT_WRITTEN):
-    """Checks an edit that did not come about: one line, and the edited text in the file that it names, for its owner alone."""
+    """Checks an edit that was not written: one line, and the edited text in the file that the line names, for its owner alone."""
     told = KEPT.fullmatch(ran.error)
     assert ran.code == 1 and ran.out == b"" and told and told.groups()[:2] == (cause, done), (name, ran)
     if told:
@@ -103,7 +103,7 @@ def keeps(name, ran, cause, text, done=NOT_WRITTEN):
 
 
 def fails(name, ran, cause):
-    """Checks an edit that did not begin."""
+    """Checks an edit that did not start."""
     assert (ran.code, ran.out, ran.error) == (1, b"", f"edit: {cause}\n"), (name, ran)
     assert drafts() == [], f"{name}, and no file is left"
     assert not os.path.exists("seen"), f"{name}, and no editor ran"
@@ -114,7 +114,7 @@ def is_own(path):
     return modes == [0o600, 0o700]
 
 
-# Contents without lines, without a last line feed, with NUL, CR and bytes above 127, and such as look like lines of a view.
+# Contents without lines, without a last line feed, with NUL, CR and bytes above 127, and some that look like lines of a view.
 TEXTS = (b"", b"\n", b"alpha", b"alpha\n", NOTES, b"\r\n\r\r\nalpha\r", b"\0\n\0alpha\0\n\xff\xfe\n\0", b"+\n@1 1\n!\nalpha\n!")
 
 
@@ -177,7 +177,7 @@ def by_environment(**environment):
 
 @pytest.mark.parametrize("name", ("VISUAL", "EDITOR", "EDITOR where VISUAL is blank", "vi", "a path with a blank, and words"))
 def test_which_editor(notes, name):
-    """Which command is the editor, and what it is given."""
+    """Which command is the editor, and its arguments."""
     see, wrong = editor(SEE + "open('words', 'w').write(repr(sys.argv[1:-1]))\n"), editor("sys.exit(9)\n", "wrong")
     os.mkdir("bin")
     os.chmod(written("bin/vi", f"#!/bin/sh\nexec {see} \"$@\"\n".encode()), 0o755)
@@ -251,7 +251,7 @@ def test_an_editor_heeds_what_is_typed(notes):
     ("a device", "os.symlink('/dev/zero', path)\n"),
     ("a socket", "import socket\nos.chdir(os.path.dirname(path))\nsocket.socket(socket.AF_UNIX).bind(os.path.basename(path))\n")))
 def test_no_plain_file(notes, name, does):
-    """An editor that leaves something else than a plain file, of which nothing is read, since a pipe might give its bytes never, or without end."""
+    """An editor that leaves something other than a plain file, which is not read, since a pipe could block, or deliver bytes without end."""
     before = dump()
     ran = edit("os.remove(path)\n" + does)
     told = LEFT.fullmatch(ran.error)
@@ -262,7 +262,7 @@ def test_no_plain_file(notes, name, does):
 
 @pytest.mark.parametrize("formula", ("line:", "word:alpha"))
 def test_emptied(notes, formula):
-    """An editor that leaves an empty file, as where its disk was full, takes no lines away."""
+    """An editor that leaves an empty file, as when its disk was full, removes no lines."""
     before = dump()
     keeps(f"an empty file in place of a view by {formula}", edit("open(path, 'wb').close()\n", formula=formula), EMPTIED, b"")
     assert dump() == before, "and the state stays"
@@ -283,13 +283,13 @@ def test_a_view_that_was_empty_before(with_views):
     ({"image": "no\x1b[2Jsuch\u202e"}, "edit: lisfs: disk fault: no^[[2Jsuch\\u202e: No such file or directory\n"),
     ({"EDITOR": "./no\x1b[2Jsuch"}, "edit: the editor ./no^[[2Jsuch: No such file or directory\n")), ids=("a name", "an image", "an editor"))
 def test_harmless_lines(notes, given, error):
-    """What is told does nothing to a terminal."""
+    """Messages do nothing to a terminal."""
     ran = edit(SEE, **given)
     assert ran.code == 1 and ran.error == error, ("with controls", ran)
 
 
 def commands(session):
-    """What an editor does so that the program carries out a session."""
+    """The code of an editor that makes the program run a session."""
     return f"subprocess.run([{PROGRAM!r}, 'run', 'image'], input={session!r}, stdout=subprocess.DEVNULL, check=True)\n"
 
 
@@ -319,7 +319,7 @@ def test_an_image_that_goes(notes, name, does, cause):
 
 def test_in_use_meanwhile(notes):
     before = dump()
-    # A process that is left behind holds the lock until its end.
+    # A process that is left running holds the lock until its end.
     ran = edit(ADD + "import fcntl\nimage = open('image', 'rb')\nfcntl.flock(image, fcntl.LOCK_EX)\nos.mkfifo('end')\nif os.fork() == 0:\n"
                "    for number in (0, 1, 2):\n        os.dup2(os.open('/dev/null', os.O_RDWR), number)\n    open('end').read()\n    os._exit(0)\n")
     keeps("the image is in use", ran, "image: in use by another lisfs", ADDED)
@@ -364,7 +364,7 @@ REFUSED = {"a mark is gone": (b"+alpha one\n+alpha two\n!\n", "notes.txt: no 27 
 
 @pytest.mark.parametrize("name", REFUSED)
 def test_refused_at_put(notes, name):
-    """What `put` refuses, where the text is kept."""
+    """What `put` refuses; the text is kept."""
     text, cause = REFUSED[name]
     before = dump()
     keeps(name, edit(f"open(path, 'wb').write(open({written('wanted', text)!r}, 'rb').read())\n"), cause, text)
@@ -390,8 +390,8 @@ def test_a_formula_with_blanks(notes):
         assert (ran.code, ran.out, ran.error) == (1, b"", f"edit: {name}{told}\n")
 
 
-# It shows the view that is in a file, and then does with `put`, and with what comes behind that many views, what it is told. At a view that is
-# a `k` it sends a signal to who started it.
+# It shows the view that is in a file, and then does with `put`, and with what follows after that many views, what it is told. At a view that is a `k`
+# it sends a signal to the process that started it.
 MADE_UP = r'''#!/bin/sh
 if [ "$1" = view ] && [ "$(wc -c <views)" -gt 0 ]; then
     first=$(head -c 1 views); tail -c +2 views >left; mv left views
@@ -404,7 +404,7 @@ fi
 
 
 FAULT = "printf 'lisfs: disk fault\\nimage: Input/output error\\n' >&2; exit 3"
-# How it ends, what is told of that, and whether the text was written where it was `put` that ended so.
+# How it ends, the message for that, and whether the text was written if it was `put` that ended so.
 ENDS = {"wrong words": ("printf 'lisfs: usage\\nlisfs run IMAGE\\n' >&2; exit 1", "the program has no word `view`: build it again", NOT_WRITTEN),
         "a damaged image": ("printf 'lisfs: not an image\\nimage: file slot 3\\n' >&2; exit 2", "lisfs: not an image: image: file slot 3", NOT_WRITTEN),
         "a locked image": ("printf 'lisfs: disk fault\\nimage: in use by another lisfs\\n' >&2; exit 3", "image: in use by another lisfs", NOT_WRITTEN),
@@ -417,7 +417,7 @@ ENDS = {"wrong words": ("printf 'lisfs: usage\\nlisfs run IMAGE\\n' >&2; exit 1"
 
 @pytest.fixture
 def made_up(folder):
-    """The path of the made-up program."""
+    """The path of the fake program."""
     written("view", VIEW)
     os.chmod(written("program", MADE_UP.encode()), 0o755)
     return os.path.abspath("program")
@@ -442,7 +442,7 @@ def test_failing_at_the_second_view(made_up, name):
     written("views", b"x")
     ran = edit(ADD, LISFS_PROGRAM=made_up)
     if name in ("no reply", "another reply"):
-        # A view may be empty, and another one is told as that.
+        # A view may be empty, and a differing one is reported as such.
         assert ran.code == 1 and "nothing was written, and the edited text is in " in ran.error, (f"{name} at the second view", ran)
     else:
         keeps(f"{name} behind one view", ran, cause, ADDED)
@@ -473,8 +473,8 @@ def test_no_room_for_the_view(made_up):
     fails("no room for the view", ran, "a file for the view: File too large")
 
 
-# The tool, to which signals come at a moment: when the editor was just started, when it is looked whether its file is there, and when that
-# is removed.
+# The tool, to which signals are sent at a moment: when the editor was just started, when the tool checks whether its file exists, and when that is
+# removed.
 AT_A_MOMENT = r"""
 import os, runpy, shutil, signal, subprocess, sys
 moment, sys.argv = sys.argv[1], sys.argv[2:]
@@ -506,10 +506,10 @@ runpy.run_path(sys.argv[0], run_name="__main__")
 """
 
 
-# Signals at any moment: what was written is told as that, and what an editor was given is named.
+# Signals at any moment: what was written is reported as such, and the editor's file is named.
 
 def at(made_up, moment, does):
-    """How an edit ends to which signals come at this moment."""
+    """How an edit ends that gets these signals at this moment."""
     written("does", b"echo ok")
     written("views", b"xx")
     given = support.with_package(VISUAL=editor(does), LISFS_PROGRAM=made_up, TMPDIR=os.path.abspath("drafts"))
@@ -517,7 +517,7 @@ def at(made_up, moment, does):
 
 
 def behind(made_up, views_before, does=""):
-    """How an edit ends of which the program shows these views."""
+    """How an edit ends if the program shows these views."""
     if not os.path.exists("does"):
         written("does", b"echo ok")
     written("views", views_before)
@@ -538,7 +538,7 @@ def test_ended_when_all_is_written(made_up):
 
 
 def test_ended_twice_at_once(made_up):
-    # It finds both at once only where it has stopped before they come.
+    # It handles both at once only if it has stopped before they come.
     has_stopped = "open(f'/proc/{os.getppid()}/stat').read().rpartition(')')[2].split()[0] == 'T'"
     both = "".join(f"os.kill(os.getppid(), signal.{name})\n" + (f"while not {has_stopped}: pass\n" if name == "SIGSTOP" else "")
                    for name in ("SIGSTOP", "SIGTERM", "SIGHUP", "SIGCONT"))

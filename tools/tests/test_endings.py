@@ -1,4 +1,4 @@
-"""How the tools begin and end beside their work: a line while an image opens, a pipe that nobody reads, and a wrong folder."""
+"""How the tools start and end, apart from their work: a line while an image opens, a pipe that nobody reads, and a wrong folder."""
 import contextlib
 import os
 import signal
@@ -16,7 +16,7 @@ from support.terminals import Terminal
 from support.waiting import LONG, until
 
 pytestmark = pytest.mark.usefixtures("program", "image")
-# The program, which takes its time.
+# The program, with a delay.
 SLOW = """#!/bin/sh
 [ "$1" = make ] || [ $# -lt 2 ] || sleep 1.5
 exec "$REAL" "$@"
@@ -27,7 +27,7 @@ exec "$REAL" "$@"
 
 @contextlib.contextmanager
 def unread():
-    """Where to write to nobody."""
+    """A descriptor for writing that nobody reads."""
     reading, writing = os.pipe()
     os.close(reading)
     yield writing
@@ -35,7 +35,7 @@ def unread():
 
 
 def ended(words, both=False, given=b"", **more):
-    """How a tool ends whose output nobody reads, and its standard error neither if it is `both`; and what it says."""
+    """How a tool ends whose output nobody reads, nor its standard error if `both`; and what it says."""
     with unread() as pipe:
         ran = subprocess.run([sys.executable, tool(words[0]), *words[1:]], input=given, stdout=pipe, stderr=pipe if both else subprocess.PIPE, check=False,
                              timeout=LONG, **more)
@@ -66,7 +66,7 @@ def test_nobody_reads_a_talk(rooms):
 
 
 def test_a_pipe_that_is_read_for_a_while(top):
-    """As by `| head -1`."""
+    """As with `| head -1`."""
     for number in range(2_000):
         images.written(f"top/f{number}", b"x")
     with subprocess.Popen([sys.executable, tool("import"), "top"], stdout=subprocess.PIPE, stderr=subprocess.PIPE, bufsize=0) as child:
@@ -101,18 +101,18 @@ def test_a_mount_whose_words_nobody_reads(image):
 
 @pytest.fixture
 def slow(program):
-    """The environment in which the program takes its time."""
+    """The environment in which the program has a delay."""
     return {"REAL": program, "LISFS_PROGRAM": os.path.abspath(images.written("slow", SLOW, 0o700)), "LISFS_PATIENCE": str(LONG)}
 
 
-# Ctrl-D counts once the prompt is there: before, it may come while the terminal changes to single keys, and get lost.
+# Ctrl-D counts once the prompt is shown: earlier, it may come while the terminal changes to single keys, and get lost.
 OPENING = ((["shell", "image"], b"> ", b"\4"), (["sync", "image", "top"], b"as they were", None), (["browse", "image"], b"http://", b"\3"),
            (["edit", "image", "notes.txt", "word:a"], b"no 10 no such file here", None), (["serve", "image"], None, b"\3"))
 
 
 @pytest.mark.parametrize("words, wanted, end", OPENING, ids=[words[0] for words, *_ in OPENING])
 def test_a_terminal_shows_that_an_image_opens(top, slow, words, wanted, end):
-    """It says so, and takes that away again."""
+    """A line says so, and is removed again."""
     with Terminal([tool(words[0]), *words[1:]], **slow) as terminal:
         assert terminal.sees(f"{words[0]}: opening image ...".encode()), terminal.shown
         assert terminal.sees(opening.CLEAR.encode()), terminal.shown

@@ -25,17 +25,17 @@ def test_another_word(text, word, wanted):
     (b"a", b"a"), (b"a|b/c", b"a|b/c"), (b"(a|b)/c", b"a|b/c"), (b"a|(b/c)", b"a|(b/c)"), (b"((a|b)|c)", b"a|b|c"), (b"a|(b|c)", b"a|(b|c)"),
     (b"(a/b)/(c/d)", b"a/b/(c/d)"), (b"!!(!a)", b"!!!a"), (b"!(a/b)|c", b"!(a/b)|c"), (b"size>=007/(size<3)", b"size>=7/size<3"), (b"!(a|b:)", b"!(a|b:)")))
 def test_texts(text, wanted):
-    """As few parentheses as there can be."""
+    """As few parentheses as possible."""
     assert formula(text).text == wanted
 
 
-# Of `x`, `y` and `z:1` there are no files.
+# No file has `x`, `y` or `z:1`.
 @pytest.mark.parametrize("text, wanted", (
     (b"a|x", b"a"), (b"x|a", b"a"), (b"/a|x", b"/a"), (b"x|y|a", b"a"), (b"a|x/b", b"a/b"), (b"b/(a|z:1)", b"b/a"), (b"a|(x/b)", b"a"), (b"!(a|x)/b", b"!a/b"),
     (b"a|(b/c)|y", b"a|(b/c)"), (b"!((a/b)|x)", b"!(a/b)"), (b"(a/b)|x/c", b"a/b/c"), (b"c/((a/b)|x)", b"c/(a/b)"), (b"a|!(b|y)", b"a|!b"),
-    # Nothing is left, or all files would be.
+    # Nothing is left, or it would be all files.
     (b"x", None), (b"a/x", None), (b"x|y", None), (b"a/(x|y)", None), (b"a|!x", None), (b"!x", None), (b"a|x/!y", None), (b"a|!(x/b)", None),
-    # No formula, and no such word.
+    # Not a formula, or no such word.
     (b"a|x/", None), (b"..", None), (b"/", None), (b"", None)))
 def test_words_that_no_file_has(text, wanted):
     instead = without(text, (b"x", b"y", b"z:1"))
@@ -55,7 +55,7 @@ def random_formula(chance, depth):
 
 
 def test_random_formulas():
-    """A text is read as what it was written of, and a formula without words that no file has finds the same files and has none of these words."""
+    """A text is parsed as what it was written from, and a formula without words that no file has finds the same files and has none of these words."""
     chance, index, count = random.Random(3), Index(), 0
     for number in range(8):
         index.describe(index.add(b"%d" % number, 0, ()), frozenset(word for bit, word in enumerate((b"a", b"b", b"c")) if number >> bit & 1))

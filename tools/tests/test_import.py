@@ -1,4 +1,4 @@
-"""`tools/import` on folders and on maildirs, with names that are no names, one name twice, a large file and a link."""
+"""`tools/import` on folders and on maildirs, with names that are no names, two equal names, a large file and a link."""
 import os
 import re
 import subprocess
@@ -26,19 +26,19 @@ class Brought:
         self.status, self.session, self.told = ran.returncode, ran.stdout, ran.stderr.decode().splitlines()
 
     def lines(self, front):
-        """The lines of the session that begin so, as texts."""
+        """The lines of the session that begin with a text, as texts."""
         return [line.decode() for line in self.session.split(b"\n") if line.startswith(front)]
 
     def having(self, *parts):
-        """The lines with one of these parts that were said, in order."""
+        """The lines of standard error that contain one of these texts, in order."""
         return sorted(line for line in self.told if any(part in line for part in parts))
 
     def limits(self):
-        """The limits from which on an empty image has room for it."""
+        """The smallest limits of an empty image with room for it."""
         return re.search("from these limits on: (.*)", "\n".join(self.told))[1].split()
 
     def into(self, image, limits):
-        """The replies where the session is run on a new image."""
+        """The replies if the session runs on a new image."""
         images.make(image, limits)
         return ran(image, self.session)
 
@@ -103,7 +103,7 @@ def test_larger_files(program, sources):
 
 
 def test_odd_folders(program):
-    """Folders that have no word, or another one than their name, and more words than a file may have: it goes in with the first 16."""
+    """Folders that have no word, or a word other than their name, and more words than a file may have: the file goes in with the first 16."""
     long, deep = "w" * 70, "".join(f"d{number}/" for number in range(1, 18))
     for at in ("...", "c d", "c d/in", "c_d", long, deep, ".dot"):
         written(f"odd/{at}/f", b"x")
@@ -119,7 +119,7 @@ def test_odd_folders(program):
 
 
 def test_long_words(program):
-    """Sixteen long words don't fit a line: those that are left come behind it."""
+    """Sixteen long words don't fit a line: the remaining ones follow it."""
     wide, name = "w" * 58, "f" * 60
     written("wide/" + "".join(f"{wide}{number:02}/" for number in range(1, 17)) + name, b"x")
     brought = Brought("--by-folder", "wide")
@@ -130,7 +130,7 @@ def test_long_words(program):
 
 @pytest.fixture
 def shut(program, needs):
-    """Words of a user who may not read all of `closed`. Root may read all, so it becomes another user."""
+    """The arguments for a user who may not read all of `closed`. Root may read everything, so the tool becomes another user."""
     for path in ("open", "closed/secret", "closed/in/f"):
         written(path, b"x")
     for path in ("closed/secret", "closed/in"):
@@ -189,7 +189,7 @@ def test_coded_headers(program):
 
 
 def test_the_newest(sources):
-    """They come first in the session, and the oldest can be left out. Names go by the order in which files are found."""
+    """They come first in the session, and the oldest can be left out. Names depend on the order in which files are found."""
     for number, name in enumerate(("a/x y.txt", "a/x.txt", "a/x?y.txt", "b/empty")):
         os.utime(f"src/{name}", (number * 86_400 + 43_200,) * 2)
     whole = Brought("--without", "c d", "--without", "deep", "--without", "large*", "src")
@@ -220,7 +220,7 @@ def test_no_folder():
 
 
 def test_refusals_are_named(program, monkeypatch, capsys):
-    """Of what no image holds it is said why, with the words that a refusal is about."""
+    """For what no image holds the report gives the cause, with the words that a refusal is about."""
     for number in range(70):
         written(f"top/d{number:02}/f", b"x")
     monkeypatch.setattr(bring, "MAX_PROPS", 64)

@@ -13,7 +13,7 @@ import pytest
 from support import TOP
 
 COMMANDS = ("browse", "edit", "import", "mount", "serve", "shell", "sync", "talk")
-# What a build without network needs of the Python that runs this: its modules, by their packages of Debian.
+# What a build without network needs in the Python that runs this: its modules, by their packages of Debian.
 PACKAGES = {"venv": "python3-venv", "pip": "python3-pip", "setuptools": "python3-setuptools", "wheel": "python3-wheel"}
 
 
@@ -23,8 +23,8 @@ def ran(*command, **more):
 
 @pytest.fixture(name="installed", scope="module")
 def _installed(tmp_path_factory):
-    """The folder with the commands. The package is built from a copy, since a build leaves folders beside its sources. The venv uses the pip of
-    the Python that runs this: a copy of its own takes most of the time."""
+    """The folder with the commands. The package is built from a copy, since a build leaves folders beside its sources. The venv uses the pip of the
+    Python that runs this: a separate copy takes most of the time."""
     for module, package in PACKAGES.items():
         if ran(sys.executable, "-c", f"import {module}").returncode:
             pytest.skip(f"{module} is missing: apt-get install {package}")

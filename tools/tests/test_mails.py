@@ -1,5 +1,5 @@
-"""What `tools/sync` and `tools/import` do with mails that somebody made to harm: what each costs, which links are followed, and what is
-believed of what was kept of an earlier run.
+"""What `tools/sync` and `tools/import` do with hostile mails: what each costs, which links are followed, and which records of an earlier run are
+believed.
 """
 import contextlib
 import hashlib
@@ -21,7 +21,7 @@ from support.costs import bounded
 from support.images import content, written
 from support.waiting import LONG, until
 
-# So many seconds of processor a mail costs at most, whatever it holds, on the machine of `costs`.
+# The most seconds of processor time of a mail, whatever it holds, on the machine of `costs`.
 COST = 0.05
 
 
@@ -35,7 +35,7 @@ def maildir(top, *boxes):
             os.makedirs(os.path.join(top, box, part), exist_ok=True)
 
 
-# What a mail costs.
+# The cost of a mail.
 
 def filled(piece, size=250_000):
     return (piece * (size // len(piece) + 1))[:size]
@@ -50,7 +50,7 @@ LINES = (b"a:\n", b"To: a\n", b" \n", b"\ta\n", b"From x\n", b"a:\r", b"From: a@
 
 
 def hostile():
-    """Headers that cost as much as they can, each by its name."""
+    """The most expensive headers, by name."""
     for field in (b"From", b"To", b"Cc", b"Subject", b"Date", b"Message-ID", b"List-Id"):
         for piece in PIECES:
             yield f"{field} of {piece[:20]}", field + b": " + filled(piece) + b"\n\nText.\n"
@@ -76,13 +76,13 @@ HOSTILE = dict(hostile())
 
 @pytest.mark.parametrize("name", HOSTILE)
 def test_costs(name):
-    """No mail costs more than so much of a processor, and each has words as every word is."""
+    """No mail costs more than the limit, and its words are well formed."""
     words, is_little, told = bounded(lambda: words_of(HOSTILE[name]), COST)
     assert is_little, (f"{name}: seconds of processor", told)
     assert all(is_assignable(word) for word in words), (f"{name}: words", words)
 
 
-# What fields of ordinary mails say is what it was, however they are written.
+# Fields of ordinary mails give the same words as before, however they are written.
 
 @pytest.mark.parametrize("field, wanted", (
     ("Alice Adams <alice@example.org>", "alice-adams"), ("bob@Example.org", "bob@example.org"), ('"Meyer, Hans" <h@e.org>', "hans-meyer"),
@@ -109,7 +109,7 @@ def test_words(header, wanted):
 # Links.
 
 def found_in(top, without=()):
-    """What is found in a folder: the paths of its files, and what is told of all else."""
+    """What is found in a folder: the paths of its files, and the reports about everything else."""
     told = []
     walked = walk.Walk(top, lambda path, why: told.append((os.path.relpath(path, top), why)), without)
     return [(os.path.relpath(found.path, top), walk.content(found, 1_000)) for found in walked.files()], sorted(told)
@@ -125,7 +125,7 @@ def secret(folder):
 
 @pytest.mark.parametrize("link", ("cur", "new", "tmp", ".Box", ".In/cur", ".In/new", "Sub", "cur/9:2,", "other"))
 def test_a_link_in_a_maildir(secret, link):
-    """No link is followed, to a file or to a folder, and each is told; what is beside it is taken."""
+    """No link is followed, to a file or to a folder, and each is reported; what is beside it is taken."""
     top = "mail-" + link.replace("/", "-")
     maildir(top, ".In")
     written(f"{top}/cur/5:2,", b"own")
@@ -156,7 +156,7 @@ def test_the_folder_itself_may_be_named_by_a_link():
 @pytest.mark.parametrize("without, found", (("tmp", [("Sub/.Box/cur/1:2,", b"own")]), ("new", [("Sub/.Box/cur/1:2,", b"own")]),
                                             ("cur", [("Sub/.Box/cur/1:2,", b"own")]), (".B*", [])))
 def test_a_maildir_stays_one(without, found):
-    """Where parts of it are passed over."""
+    """If parts of it are skipped."""
     maildir("passed/Sub", ".Box")
     written("passed/Sub/.Box/cur/1:2,", b"own")
     assert found_in("passed", [without]) == (found, []), f"a maildir without {without}"
@@ -186,10 +186,10 @@ def test_a_link_that_comes_meanwhile(secret, path, target):
         f"{path} becomes a link before it is looked into", told)
 
 
-# What is kept of an earlier run.
+# What is kept from an earlier run.
 
 class Counted:
-    """How many files are read meanwhile."""
+    """Counts the files that are read meanwhile."""
 
     def __enter__(self):
         self.real, self.paths = walk.opened, []
@@ -206,7 +206,7 @@ class Counted:
 
 
 def looked(top, is_kept=True):
-    """What a run finds in a folder, which files it reads, and which it keeps something of."""
+    """What a run finds in a folder, which files it reads, and for which it keeps a record."""
     remembered = cache.Remembered(top) if is_kept else cache.Nothing()
     found = entries.Entries(top, 1 << 20, lambda folders: [], lambda *_: None, lambda: None, remembered=remembered)
     with Counted() as counted:
@@ -216,7 +216,7 @@ def looked(top, is_kept=True):
 
 
 def old_enough(top):
-    """Waits until a change of any file would have another time than it has."""
+    """Waits until a change of any file would give it other times."""
     def is_so():
         newest = max(os.lstat(os.path.join(at, name)).st_ctime_ns for at, _, names in os.walk(top) for name in names)
         return time.time_ns() > newest + cache.STEP
@@ -226,12 +226,12 @@ def old_enough(top):
 
 @pytest.fixture(autouse=True)
 def cache_folder(folder, monkeypatch):
-    """What is kept lies in the test's folder."""
+    """The cache is in the test's folder."""
     monkeypatch.setenv("XDG_CACHE_HOME", os.path.abspath("cache"))
 
 
 def test_kept():
-    """A second run reads no mail that has not changed; one that has is read again, whatever it has of the former one."""
+    """A second run reads no unchanged mail; a changed one is read again, whatever it has in common with the former one."""
     maildir("mail", ".Box")
     for number in range(30):
         written(f"mail/{'.Box/' if number % 3 else ''}cur/{number}:2,", mail(number, f"Subject number{number}"))
@@ -266,7 +266,7 @@ def test_kept():
 
 @pytest.fixture
 def remembered():
-    """Two maildirs of one mail each, after a run over the first: what it found, and where that is kept."""
+    """Two maildirs of one mail each, after a run over the first: what it found, and the path of the cache."""
     for top in ("mail", "other"):
         maildir(top)
         written(f"{top}/cur/1:2,", mail(1))
@@ -276,12 +276,12 @@ def remembered():
 
 
 def signed(given, **other):
-    """What is kept, with other values."""
+    """The cache, with other values."""
     body = json.dumps({**given, **other}).encode()
     return hashlib.sha256(body).hexdigest().encode() + b"\n" + body
 
 
-# What is missing, damaged, another folder's, of another version or written by somebody else is made again.
+# A cache that is missing, damaged, of another folder, of another version or written by somebody else is made again.
 DAMAGED = {
     "nothing": lambda whole, digest, body, given: b"", "half of it": lambda whole, digest, body, given: whole[:len(whole) // 2],
     "a wrong byte": lambda whole, digest, body, given: digest + b"\n" + body.replace(b"Hello there", b"Hullo there"),
@@ -359,7 +359,7 @@ def test_songs(mutagen):
 
 
 def test_strace(program, needs):
-    """A second run of the tool opens none of its mails, by the system's own calls."""
+    """A second run of the tool opens none of its mails, as the system calls show."""
     needs("strace")
     maildir("mail")
     for number in range(5):
@@ -378,7 +378,7 @@ def test_strace(program, needs):
     assert opened[0] >= 5 and opened[1] == 0 and opened[2] >= 5, ("mails that are opened", opened)
 
 
-# What comes to a terminal.
+# What is shown on a terminal.
 
 EVIL = "x\x1b]0;title\x07\x1b[2J\r\n\udcff\u202e\x85y"
 SHOWN = "x^[]0;title^G^[[2J^M^J\\xff\\u202e\\x85y"
@@ -407,7 +407,7 @@ def evil(folder):
 
 @pytest.mark.parametrize("words", (["--verbose", "--by-folder", "top"], ["--word", EVIL, "top"], [EVIL]), ids=("a folder", "a word", "no folder"))
 def test_names_by_import(evil, words):
-    """They are told without that, a line each."""
+    """They are reported harmlessly, one per line."""
     _, error = told("import", *words, program="/nosuch")
     assert is_harmless(error) and SHOWN.encode() in error, (f"import {words}", error)
 
@@ -420,7 +420,7 @@ def test_names_by_sync(evil, words):
 
 @pytest.mark.parametrize("tool, words", (("browse", []), ("mount", ["top"])))
 def test_the_name_of_an_image(program, evil, tool, words):
-    # A path that is no UTF-8 the program doesn't take.
+    # The program does not accept a path that is not UTF-8.
     _, error = told(tool, "x\x1b]0;title\x07y", *words)
     assert is_harmless(error) and b"x^[]0;title^Gy" in error, (f"{tool} of an image of such a name", error)
 

@@ -1,4 +1,4 @@
-"""`tools/mount`: its parts, what is known of an image at the start, and where nothing is mounted."""
+"""`tools/mount`: its parts, what is known of an image at the start, and runs that mount nothing."""
 import collections
 import contextlib
 import errno
@@ -117,7 +117,7 @@ def test_no_dump(data):
     assert told_by(read, data) == NotADump, f"no dump: {data}"
 
 
-# A program behind whose dumps others get in between, each with a line of the file `others`.
+# A program after whose dumps others change the image, each with a line of the file `others`.
 DUMPER = r'''
 import os, subprocess, sys
 program, words = os.environ["REAL"], sys.argv[1:]
@@ -148,7 +148,7 @@ def known():
 
 @pytest.fixture
 def begin(image, program, monkeypatch):
-    """Lets others get in between the dump and the session, each with a line."""
+    """Lets others change the image between the dump and the session, each with a line."""
     with images.session(image) as session:
         session.mkdir(b"unused")
         session.create(b"x")
@@ -189,7 +189,7 @@ def test_a_locked_image_at_the_start(begin):
 
 
 def ran(*words, **more):
-    """The status and what is said, of a run that does not mount."""
+    """The status and the messages of a run that does not mount."""
     done = subprocess.run([sys.executable, MOUNT, *words], stdin=subprocess.DEVNULL, capture_output=True, timeout=LONG, check=False, **more)
     return done.returncode, done.stderr.decode()
 
@@ -203,14 +203,14 @@ runpy.run_path(sys.argv[0], run_name="__main__")
 """
 
 
-# A program that takes its time to end.
+# A program that ends slowly.
 LATE = """#!/bin/sh
 "$REAL" "$@" || exit
 [ "$1" != run ] || { sleep 0.5; touch ended; }
 """
 
 
-# Where nothing is mounted: one line that says why, and the status 1. Nobody has the image then.
+# Runs that mount nothing: one line that says why, and the status 1. Afterwards no process has the image.
 
 @pytest.fixture
 def mountpoint(image):
@@ -258,7 +258,7 @@ def test_each_refusal_has_an_error():
     assert told_by(lambda: sorted(number for number, row in REFUSALS.items() if row.error)) == list(range(1, 26)), "each refusal has an error"
 
 
-# It mounts nothing, and sends what it was told to, or nothing.
+# It mounts nothing, and sends what it was told to send, or nothing.
 HELPER = r"""
 import array, os, socket, sys
 open("asked", "a").write(" ".join(sys.argv[1:]) + "\n")
@@ -277,7 +277,7 @@ end.sendmsg([b"x"], [] if sys.argv[-1] == "none" else [(socket.SOL_SOCKET, socke
     ("folder", ("-o default_permissions,subtype=lisfs,fsname=a\\,b -- folder", False)), ("none", "fusermount3 sent no device"),
     ("bad", "fusermount3: mountpoint is bad")), ids=("a device", "none is sent", "what the helper says"))
 def test_helper(monkeypatch, folder_name, wanted):
-    """The device by the helper that may mount for others than root."""
+    """The device from the helper that may mount for users other than root."""
     images.written("programs/fusermount3", f"#!{sys.executable}\n{HELPER}", 0o755)
     monkeypatch.setenv("PATH", f"programs:{os.environ['PATH']}")
 
@@ -299,7 +299,7 @@ FOUND = kernel.Attributes(5, 6, 8, 10**18 + 1, 10**18 + 2, 10**18 + 3, 0o100644,
 ATTRIBUTES = struct.pack("=6Q10I", 5, 6, 8, 10**9, 10**9, 10**9, 1, 2, 3, 0o100644, 2, 1, 2, 0, 4096, 0)
 AT, ENTRY = kernel.Entry(9, FOUND, 60), struct.pack("=QQQQII", 9, 0, 0, 60, 0, 0) + ATTRIBUTES
 DONE, HANDLE = (0, b""), struct.pack("=QIIQ", 4, 0, 0, 0)
-# The number of a message and what it says, what the handler answers, what goes back, and what the handler was asked; after linux/fuse.h.
+# The number of a message and its body, what the handler returns, the reply, and the call of the handler; after linux/fuse.h.
 MESSAGES = (
     (26, struct.pack("=IIII", 7, 12, 0, 0), None, (errno.EPROTO, b""), None),
     (26, struct.pack("=IIII", 8, 0, 0, 0), None, (errno.EPROTO, b""), None),
@@ -332,7 +332,7 @@ MESSAGES = (
     (29, HANDLE, None, DONE, ("releasedir", 4)),
     (30, struct.pack("=QII", 4, 0, 0), None, DONE, ("fsyncdir",)),
     (17, b"", kernel.Space(1, 2, 3, 4, 5, 6), (0, struct.pack("=QQQQQIIII24x", 1, 2, 2, 3, 4, 5, 6, 5, 0)), ("statfs",)),
-    # What isn't known: attributes of another kind, an interruption, and a call of later kernels.
+    # Unknown requests: attributes of another kind, an interruption, and a call of later kernels.
     (22, bytes(8), None, (errno.ENOSYS, b""), None),
     (36, bytes(8), None, (errno.ENOSYS, b""), None),
     (52, bytes(24), None, (errno.ENOSYS, b""), None),
@@ -340,7 +340,7 @@ MESSAGES = (
 
 
 class Noting:
-    """Handlers that note what they are asked, and answer by what they are told to."""
+    """Handlers that note their calls, and return what they are told to."""
 
     def __init__(self):
         self.asked, self.reply = [], None
@@ -356,7 +356,7 @@ class Noting:
 
 @pytest.fixture
 def device():
-    """A pair of sockets in the place of the device, handlers that know nothing, and what serves them."""
+    """A pair of sockets instead of the device, handlers that know nothing, and a connection that serves them."""
     ours, theirs = socket.socketpair(socket.AF_UNIX, socket.SOCK_SEQPACKET)
     with ours, theirs:
         handlers = Noting()
@@ -391,7 +391,7 @@ def test_no_more_messages(device):
 
 
 class Losing(Connection):
-    """A device whose message is taken back between a look and the read, as where the asker is killed; then somebody wants an end."""
+    """A device whose message is withdrawn between a check and the read, as when the asker is killed; then an end is requested."""
 
     def __init__(self, device, handlers, wanting):
         super().__init__(device, handlers)
@@ -404,7 +404,7 @@ class Losing(Connection):
 
 
 def test_taken_back():
-    """A message that is taken back keeps nobody from an end."""
+    """A withdrawn message delays no end."""
     ours, theirs = socket.socketpair(socket.AF_UNIX, socket.SOCK_SEQPACKET)
     (stop, wanting), (program, its) = os.pipe(), os.pipe()
     ended = []

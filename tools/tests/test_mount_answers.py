@@ -1,4 +1,4 @@
-"""`tools/mount`: its answers over the built program, asked directly, by messages, and by the system where a folder can be mounted."""
+"""`tools/mount`: its answers over the built program, asked directly, by messages, and by the system if a folder can be mounted."""
 import os
 import random
 
@@ -27,12 +27,12 @@ def rows(ways, table):
 
 
 def several(ways, *calls):
-    """What some calls answer, one after the other."""
+    """The results of some calls, in sequence."""
     return tuple(getattr(ways, call)(*given) for call, *given in calls)
 
 
 def new_ones(ways):
-    """A new file is there for everybody before its first bytes are stored."""
+    """Everybody sees a new file before its first bytes are stored."""
     ways.mkdir("new")
     handle = ways.open("new/first", WR | NEW)
     ways.write(handle, b"first", 0)
@@ -85,7 +85,7 @@ def two_paths(ways):
 
 
 def writers(ways):
-    """Writers at two paths write to the same bytes, and a copy of a file onto itself at another path is no loss."""
+    """Writers at two paths write the same bytes, and copying a file onto itself at another path loses nothing."""
     ways.put("log", b"")
     ways.link("log", "music/log")
     handles = [ways.open(path, WR | os.O_APPEND) for path in ("log", "music/log", "log")]
@@ -142,7 +142,7 @@ def goes(ways):
 
 
 def sizes(ways):
-    """Empty files, new ones, and those that are as large as may be."""
+    """Empty files, new ones, and those of the largest size."""
     ways.close(ways.open("y", WR | os.O_TRUNC))
     assert told_by(ways.get, "music/y") == b"", "emptied by opening"
     assert told_by(ways.open, "y", WR | os.O_CREAT | os.O_EXCL) == "EEXIST", "not anew"
@@ -169,7 +169,7 @@ def test_contents(way):
 
 
 def test_looks(way):
-    """Modes and times live for one mount."""
+    """Modes and times last for one mount."""
     make("image", "64", "128", "64")
     with way("image") as ways:
         ways.mkdir("music")
@@ -212,7 +212,7 @@ def test_looks(way):
 
 
 def test_no_room(way):
-    """What an image has no room for is told at the close, and can be tried again."""
+    """What an image has no room for is reported at the close, and can be tried again."""
     make("image", "64", "128", "4")
     with way("image") as ways:
         ways.put("old", bytes(8_192))
@@ -255,7 +255,7 @@ def test_too_many(way):
         ways.unlink("f1")
         assert told_by(ways.open, "f1.new", WR | NEW) == "ENOSPC", "no room for the word of an ending"
         assert told_by(lambda: (told_by(ways.put, "f1", bytes(2_000)), ways.stat("f1").size)) == ("ENOSPC", 0), "nor for one of the bytes"
-    # Sixteen words of 60 bytes and a name: no line takes them all.
+    # Sixteen words of 60 bytes and a name: no line has room for all of them.
     make("image", "64", "128", "64")
     with way("image") as ways:
         words = [f"{number:02}" + "w" * 58 for number in range(16)]
@@ -266,7 +266,7 @@ def test_too_many(way):
 
 
 def test_both_kinds(way):
-    """An image may have a file that is named as a word: the folder goes first, and `:all` has the file."""
+    """An image may have a file with the name of a word: the folder hides it, and `:all` has the file."""
     make("image", "64", "128", "64")
     with images.session() as program:
         program.mkdir(b"music")
@@ -297,7 +297,7 @@ PARTS = ["a", "b", "c", "d", "e", "k:1", "k:2", "k:", "!a", "a|k:2", "!(b|c)", "
 
 
 def some_change(chance, at):
-    """A call and what it is given, at a path or from it to another one."""
+    """A call and its arguments, at a path or from it to another one."""
     name = chance.choice("uvwxyz") + chance.choice(["", ".c"])
     other = "/".join([chance.choice(["a", "b", "k:1", "k:2"]) for _ in range(chance.randrange(3))] + [name])
     path = "/".join(at + [name])
@@ -309,7 +309,7 @@ def some_change(chance, at):
 
 
 def go_on(ways, handles, chance):
-    """What happens to a file that is open."""
+    """Actions on an open file."""
     if handles:
         handle = chance.choice(handles)
         told_by(ways.write, handle, b"y" * chance.randrange(1, 9), chance.randrange(3))
@@ -319,7 +319,7 @@ def go_on(ways, handles, chance):
 
 
 def test_agreement():
-    """What is known here of an image is what the program says, after any changes."""
+    """After any changes, what the mount knows of an image is what the program says."""
     chance = random.Random(7)
     make("image", "64", "192", "64")
     with images.session() as program:
@@ -351,7 +351,7 @@ def test_agreement():
 
 
 def made_surely(settle):
-    """Nothing keeps a file that waits from being made."""
+    """Nothing prevents that a waiting file is made."""
     def settled():
         try:
             settle()
@@ -366,7 +366,7 @@ def known_of(image):
 
 
 def agrees_below(name, image, place, used):
-    """What a folder shows that shows only words that entail its last one: those of the listing that do, and each file that they don't cover."""
+    """A folder that shows only words that entail its last one shows those of the listing that do, and each file that they don't cover."""
     last, here = place.words[-1], image.extension(place)
     words, files = image.below(place, last, True)
     found = [word for word in words if image.index.having(word)]
@@ -379,7 +379,7 @@ def agrees_below(name, image, place, used):
 
 
 def agrees(name, image, place):
-    """A place's listing and files as the program tells them."""
+    """A place's listing and files are those of the program."""
     program, here = image.program, image.extension(place)
     try:
         words, files = image.listing(place, True)

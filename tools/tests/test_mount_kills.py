@@ -1,4 +1,4 @@
-"""Kills of a mount, of the program below it and of both, under three that write, and what is in the image then."""
+"""Kills of a mount, of the program below it and of both, during three writers, and what is in the image afterwards."""
 import contextlib
 import errno
 import functools
@@ -21,11 +21,11 @@ pytestmark = pytest.mark.usefixtures("program", "fuse")
 
 
 class Keeper:
-    """Changes files of its own, and knows what the image may hold when it is stopped: what was acknowledged, or with the change under way."""
+    """Changes separate files, and knows what the image may hold when it is stopped: what was acknowledged, or also the change under way."""
 
     def __init__(self, ways, seed, letter):
         self.ways, self.chance, self.files, self.others, self.letter = ways, random.Random(seed), {}, [], letter
-        # How many changes were begun, and how many acknowledged.
+        # How many changes were started, and how many were acknowledged.
         self.count = self.done = 0
 
     def change(self):
@@ -58,7 +58,7 @@ class Keeper:
         self.files, self.others, self.done = after, [], self.done + 1
 
     def synced(self, path, data):
-        """What `fsync` has acknowledged counts, and the close behind it tells nothing more."""
+        """What `fsync` has acknowledged counts; the close after it reports nothing more."""
         handle = self.ways.open(path, WR | NEW)
         try:
             self.ways.write(handle, data, 0)
@@ -68,7 +68,7 @@ class Keeper:
             told_by(self.ways.close, handle)
 
     def shell(self, name, data):
-        """By a program that looks whether its output could be closed, as a shell itself doesn't."""
+        """By a program that checks whether its output could be closed, as a shell itself doesn't."""
         done = subprocess.run(["bash", "-c", 'exec cat > "$0"', self.ways.at(name)], input=data, capture_output=True, check=False)
         if done.returncode:
             raise OSError(errno.EIO, done.stderr)
@@ -88,7 +88,7 @@ def killed(keepers, processes, chance):
         writer.start()
     wanted = chance.randrange(1, 40)
     until(lambda: sum(keeper.count for keeper in keepers) >= wanted)
-    # Anywhere in it, or in those behind it.
+    # Anywhere in it, or in later ones.
     time.sleep(chance.uniform(0, 0.01))
     for process in processes:
         os.kill(process, signal.SIGKILL)
@@ -97,11 +97,11 @@ def killed(keepers, processes, chance):
 
 
 def test_kills(mount_kill):
-    """The mount, the program below it, or both are killed at random points, under three that write."""
+    """The mount, the program below it, or both are killed at random points, during three writers."""
     os.mkdir("folder")
     make("image", "64", "128", "64")
     mount = Mount("image", "folder")
-    # By the folder that is mounted now: at its path there is another one once it is unmounted.
+    # Through the folder that is mounted now: at its path there is another one once it is unmounted.
     top = os.open("folder", os.O_RDONLY)
     program, ways = children(mount.child.pid)[0], Real(f"/proc/{os.getpid()}/fd/{top}")
     keepers = [Keeper(ways, f"{mount_kill} {letter}", letter) for letter in "fgh"]
@@ -122,7 +122,7 @@ def test_kills(mount_kill):
 
 
 def left(image):
-    """What a keeper's files are in an image."""
+    """The contents of a keeper's files in an image."""
     with directly(image) as ways:
         known = ways.tree.image
         known.extension(Place())

@@ -1,4 +1,4 @@
-"""What a mount sends to the program for what it is asked, and when: a new file waits for its bytes, and is never lost without a word."""
+"""Which commands a mount sends to the program for a request, and when: a new file waits for its bytes, and is never lost silently."""
 import contextlib
 import errno
 import io
@@ -37,7 +37,7 @@ def asked(program):
 
 
 def test_commands(asked):
-    """What is sent for what is asked."""
+    """The commands for each request."""
     ways, sent = asked
     for wanted, call, *given in (
             (["mkdir music"], "mkdir", "music"), (["cd /music", "mkdir jazz", "cd /"], "mkdir", "music/jazz"),
@@ -62,10 +62,10 @@ def with_a_file(asked):
 
 
 def test_closes(with_a_file):
-    """A shell closes one of two before it writes, and the other at the end."""
+    """A shell closes one of two descriptors before it writes, and the other at the end."""
     ways, sent = with_a_file
     node, handle = ways.walk("x"), ways.open("x", WR | os.O_TRUNC)
-    # A file of which nothing that is open has the number, on whatever disk.
+    # A file whose inode differs from those of all open files, on whatever disk.
     other = next(name for name in map("other{}".format, range(99)) if not tree.is_open_in(os.getpid(), number_of(name)))
     with open(other, "w"):
         inode = ways.tree.nodes[node].inode = number_of(other)
@@ -85,7 +85,7 @@ def test_closes(with_a_file):
 
 
 def test_waits(with_a_file):
-    """A new file waits for its bytes, but not while anything else is to be changed or asked."""
+    """A new file waits for its bytes, but not while anything else must be changed or asked."""
     ways, sent = with_a_file
     handles = []
 
@@ -121,7 +121,7 @@ def test_waits(with_a_file):
 
 
 def test_notices(with_a_file):
-    """Who else may have old attributes of a folder is told of a change; the kernel knows itself what a thread changed that has them."""
+    """The kernel is notified of a folder's change if another thread may have old attributes; it knows itself what the thread with them changed."""
     ways, _ = with_a_file
     told, tree = [], ways.tree
     tree.changed = told.append
@@ -146,13 +146,13 @@ def test_notices(with_a_file):
 
 
 def number_of(name):
-    """The number of a file, which is made where there is none."""
+    """The number of a file, which is made if necessary."""
     with open(name, "a") as file:
         return os.fstat(file.fileno()).st_ino
 
 
 def crowded(is_asked):
-    """What is told of nine new files with new endings, where known words have room for seven of them; and which of them are there."""
+    """The results for nine new files with new suffixes, if known words have room for seven of them; and which of them exist."""
     make("image", "64", "64", "8")
     with images.session() as program:
         for number in range(54):
@@ -176,7 +176,7 @@ def refusing(number):
 
 @pytest.mark.parametrize("number", (9, 18, 19, 20, 21, 22, 24))
 def test_not_made(number):
-    """A new file that the program doesn't make after all, which nothing here leads to: whoever has it open is told."""
+    """A new file that the program does not make after all, which is faked here: programs that have it open get an error."""
     name, error = f"a new file that is refused as {number}", errno.errorcode[error_of(number)]
     make("image", "64", "64", "8")
     with directly("image") as ways:
@@ -211,7 +211,7 @@ def test_not_made_with_bytes(number):
 
 
 def test_unclosed():
-    """What is written and not closed is stored when nobody asks any more, or told by name."""
+    """What is written and not closed is stored when there are no more requests, or reported by name."""
     make("image", "64", "64", "4")
     with directly("image") as ways:
         ways.put("old", b"old")
@@ -252,7 +252,7 @@ def test_unclosed_and_not_made(number):
 
 
 def finished(ways):
-    """What an end says, and whether something is lost. The kernel is told of nothing by then."""
+    """What an end says, and whether something is lost. The kernel gets no notifications any more."""
     ways.tree.changed = refusing(0)
     with contextlib.redirect_stderr(io.StringIO()) as said:
         ways.tree.finish()
@@ -260,7 +260,7 @@ def finished(ways):
 
 
 def dead(is_asked):
-    """The close of a new file where the program has ended while it waited."""
+    """The close of a new file if the program has ended while it waited."""
     make("image", "64", "64", "8")
     with directly("image") as ways:
         handle = ways.open("x", WR | NEW)
@@ -272,7 +272,7 @@ def dead(is_asked):
 
 @pytest.mark.parametrize("is_asked", (False, True))
 def test_losses(is_asked):
-    """No call of a file says success that is not in the image then."""
+    """No call on a file reports success for what is not in the image then."""
     told, there = crowded(is_asked)
     assert told == [None] * 7 + ["ENOSPC"] * 2, f"new files beside each other, {is_asked}"
     assert there == [f"f.e{number}" for number in range(7)], f"each of them is there, {is_asked}"

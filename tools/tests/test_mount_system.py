@@ -1,4 +1,4 @@
-"""`tools/mount` where a folder can be mounted: its ends, other users, the programs that are installed, and several at once."""
+"""`tools/mount` if a folder can be mounted: its ends, other users, the installed programs, and several at once."""
 import os
 import signal
 import socket
@@ -32,7 +32,7 @@ def mounted(image, mountpoint):
     return Mount(image, mountpoint), Real(mountpoint)
 
 
-# However it ends, the folder is free then, and no process is left.
+# However it ends, the folder is free afterwards, and no process is left.
 
 @pytest.mark.parametrize("number", (signal.SIGTERM, signal.SIGINT, signal.SIGHUP))
 def test_the_end_by_a_signal(mounted, number):
@@ -56,7 +56,7 @@ def test_the_end_by_umount(mounted):
 
 
 def test_the_end_with_open_files(mounted):
-    """Somebody has a file open, and wrote into it."""
+    """A program has a file open, and has written into it."""
     mount, ways = mounted
     ways.put("x", b"whole")
     handle = ways.open("x", WR)
@@ -65,7 +65,7 @@ def test_the_end_with_open_files(mounted):
     assert told_by(mount.stop) == (0, ""), "the end with open files"
     assert isinstance(told_by(ways.close, handle), str), "the close of what is gone"
     assert isinstance(told_by(ways.close, new), str), "that of a new file"
-    # Ctrl-C goes to all that the terminal started.
+    # Ctrl-C goes to all processes that the terminal started.
     child = subprocess.Popen([sys.executable, MOUNT, "image", "folder"], stdin=subprocess.DEVNULL, stderr=subprocess.PIPE,
                              start_new_session=True)
     child.stderr.readline()
@@ -76,7 +76,7 @@ def test_the_end_with_open_files(mounted):
 
 @pytest.mark.parametrize("target", ("mount", "program"))
 def test_what_is_lost_at_the_end(mounted, target):
-    """There is no room for what was written, or nobody to take it."""
+    """There is no room for what was written, or no program that takes it."""
     mount, ways = mounted
     ways.put("x", b"whole")
     handle = ways.open("x", WR)
@@ -98,7 +98,7 @@ def test_a_mount_on_the_folder_where_it_is_started(mountpoint):
 
 @pytest.fixture
 def another(root):
-    """Skips where no other user can be taken on."""
+    """Skips if the test can't become another user."""
     try:
         subprocess.run(["true"], preexec_fn=as_another, check=True)
     except (OSError, subprocess.SubprocessError):
@@ -116,7 +116,7 @@ def test_another_user(mountpoint, another, more, modes, wanted):
         program.add(b"x", b"x")
     mount = Mount("image", "folder", *more)
     shell(f"chmod {modes}", ".") if modes else None
-    # Where it is mounted for its user alone, or the folder is shut, others may not even go there.
+    # If it is mounted for its user alone, or the folder is closed to others, they may not even enter it.
     told = shell(f"cd folder 2>/dev/null || {{ echo '{NO}'; exit; }}; cat x", ".", preexec_fn=as_another)
     assert told == wanted, f"another user, {more}, {modes}"
     told = shell("stat -c %a folder folder/:all folder/x", ".")
@@ -125,7 +125,7 @@ def test_another_user(mountpoint, another, more, modes, wanted):
 
 
 def test_unprotected(mountpoint, another):
-    """What modes of folders can't keep others from, as the page says."""
+    """What modes of folders can't protect, as the page says."""
     make("shared", "64", "64", "8")
     with images.session("shared") as program:
         for word in (b"private", b"public"):
@@ -154,7 +154,7 @@ def as_another():
 
 @pytest.mark.parametrize("is_asked", (False, True))
 def test_dead_program(mounted, is_asked):
-    """Where the program has ended, nothing is acknowledged any more, and the folder is free."""
+    """After the program has ended, nothing is acknowledged any more, and the folder is free."""
     (mount, ways), told = mounted, []
     program = children(mount.child.pid)[0]
     if is_asked:
@@ -172,7 +172,7 @@ def test_dead_program(mounted, is_asked):
         assert told_by(direct.ls, "") == [], "what is in the image"
 
 
-# The files over which programs are tried, and what they are to print.
+# The files on which programs are tried, and their expected output.
 SEED = """mkdir -p music/live docs year:
 for k in 1 2 3; do echo song $k > music/song$k; done
 echo gig > music/live/gig; echo 2003 > year:2003/note; printf 'one\\ntwo\\n' > docs/text; : > docs/empty"""
@@ -180,7 +180,7 @@ PROGRAMS = os.path.join(support.TESTS, "support/mount/programs.txt")
 
 
 def transcripts(text, begin):
-    """The parts of a text of commands and what they print: of each the line that it begins with, and its commands."""
+    """The parts of a text of commands and their output: for each the first line, and its commands."""
     for part in text.split(begin)[1:]:
         head, _, rest = part.partition("\n")
         commands = [one.partition("\n") for one in ("\n" + rest).split("\n$ ")[1:]]
@@ -197,19 +197,19 @@ def shell(words, folder, **more):
 
 
 def parts():
-    """The parts of the file: of each the programs that it needs, and its commands with what they print."""
+    """The parts of the file: for each the programs that it needs, and its commands with their output."""
     with open(PROGRAMS, encoding="utf-8") as file:
         return list(transcripts(file.read(), "\n# "))
 
 
 @pytest.mark.parametrize("programs, commands", parts(), ids=[programs for programs, _ in parts()])
 def test_programs(needs, programs, commands):
-    """The programs that people have, each over the same few files."""
+    """Common programs, each over the same few files."""
     needs(*programs.split())
     make("image", "256", "256", "1024", "v2")
     os.mkdir("out")
     out = os.path.abspath("out")
-    # Of the caller's own settings, as of `make` or `tar`, they get none.
+    # They get none of the caller's own settings, for example those of `make` or `tar`.
     environment = {"PATH": os.environ["PATH"], "OUT": out, "LC_ALL": "C", "HOME": out}
     with really("image") as ways:
         for words, wanted in [(SEED, "")] + commands:
@@ -218,7 +218,7 @@ def test_programs(needs, programs, commands):
 
 
 def has_network():
-    """Whether this machine can speak to itself."""
+    """Whether this machine can connect to itself."""
     with socket.socket() as listener, socket.socket() as asker:
         try:
             listener.bind(("127.0.0.1", 0))
@@ -230,10 +230,10 @@ def has_network():
 
 
 def test_pages():
-    """A server of pages over it, which several ask at once."""
+    """A web server over it, with several clients at once."""
     if not has_network():
         pytest.skip("127.0.0.1 is not there")
-    # Without those in between that the environment may name.
+    # Without the proxies that the environment may name.
     ask = urllib.request.build_opener(urllib.request.ProxyHandler({})).open
     make("image", "64", "128", "64")
     with really("image") as ways:
@@ -298,7 +298,7 @@ for number in range(25):
 
 
 def test_six():
-    """Six at once, each with files of its own and all with one log."""
+    """Six at once, each with separate files and all with one log."""
     make("image", "256", "128", "1024")
     with really("image") as ways:
         for folder in ("in", "out"):

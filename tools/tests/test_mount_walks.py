@@ -1,5 +1,5 @@
-"""`tools/mount`: what its folders show to programs that walk all of them: each file, and so few folders that they come to an end. Also what a
-mount asks the program for."""
+"""`tools/mount`: what its folders show to programs that walk all of them: each file, and few enough folders that they end. Also what a mount asks the
+program for."""
 import itertools
 import os
 import shutil
@@ -21,7 +21,7 @@ BOXES = sorted(word.decode() + "/" for word in mails.BOXES)
 
 @pytest.fixture(scope="module")
 def image_of_mails(request):
-    """The path of an image with so many made mails, which no test changes, and how many words a file has altogether."""
+    """The path of an image with N synthetic mails, which no test changes, and how many words each file has altogether."""
     request.getfixturevalue("program")
     folder = tempfile.mkdtemp()
     yield make(os.path.join(folder, "mails"), mails.LIMITS, mails.session(MAILS))
@@ -29,7 +29,7 @@ def image_of_mails(request):
 
 
 class Walked:
-    """What a program finds that goes into each folder that it is shown, and how much it asked for. More than `most` folders are too many."""
+    """What a program finds that enters each folder that it is shown, and how much it asked for. More than `most` folders are too many."""
 
     def __init__(self, ways, top, most, looks=False):
         self.folders, self.entries, self.files, self.ways = 0, 0, set(), ways
@@ -66,7 +66,7 @@ def given_to(image):
 
 @pytest.mark.parametrize("looks", (False, True), ids=("as find", "as ls -lR"))
 def test_a_walk(image_of_mails, looks):
-    """It meets each file once for each of its words at most, and each word once."""
+    """It meets each file at most once for each of its words, and each word once."""
     given = given_to(image_of_mails)
     known = set().union(*given)
     with directly(image_of_mails) as ways:
@@ -89,7 +89,7 @@ def test_a_walk_of_derived_words(image_of_mails):
 
 
 def test_little_is_asked(image_of_mails):
-    """The words of each file are asked for where words that it has on its own matter, and not before."""
+    """The words of each file are asked for when automatic words matter, and not before."""
     with directly(shutil.copy(image_of_mails, "copy")) as ways:
         box = next(word for word in ways.tree.image.files[b"m0000.eml"].given if word.startswith(b"in:")).decode()
         program, sent = ways.tree.image.program, []
@@ -105,7 +105,7 @@ def test_little_is_asked(image_of_mails):
 
 
 def test_words_by_axioms_and_tests(program):
-    """Where a word that files have on their own makes that they have a declared one, all are asked for at first."""
+    """If an automatic word gives files a declared one, all words are asked for at first."""
     for name, line in (("axiom", b"axiom from:a@b own\n"), ("test", b"mkdir size>=30\naxiom size>=30 own\n")):
         make(name, script=b"mkdir own\nmkdir other\nmkdir both\naxiom other both\n" + line + b"add x.eml 30 other\nFrom: a@b\nSubject: a word!\n\n!\n\n"
              b"create y.eml other\ncreate z\n")
@@ -166,7 +166,7 @@ def test_a_small_image():
 
 
 def test_few_files_with_derived_words():
-    """The words that files have on their own are more, so that fewer files make an image large."""
+    """Automatic words are more, so that fewer files make an image large."""
     with directly(made_small(66, [b"v", b"w"])) as ways:
         assert told_by(ways.ls, ":by") == told_by(ways.ls, ""), "all files are alike"
     for count, shown in ((49, ["k/", "size:empty/", "size:small/"]), (51, None)):
@@ -180,7 +180,7 @@ def test_few_files_with_derived_words():
 
 
 def test_more_specific_words_go_on():
-    """A word below another one is shown in its folder, however deep, so that a tree of folders stays one."""
+    """A word below another one is shown in its folder, however deep, so that a tree of folders stays a tree."""
     script = b"".join(b"mkdir w%d\n%b" % (number, b"axiom w%d w%d\n" % (number, number - 1) * (number > 0)) for number in range(8))
     make("image", ("2048", "256", "8"), script + b"mkdir other\n" + b"".join(
         b"create f%d w%d%b\n" % (number, number % 8, b" other" * (number % 2)) for number in range(1_200)))
@@ -211,7 +211,7 @@ def test_unused_words_are_shown():
             assert told_by(ways.rmdir, path) is None and told_by(ways.ls, path) == "ENOENT", path
 
 
-# Marks by which programs that look at all files of a system stay out.
+# Marks that keep programs out that read all files of a system.
 
 @pytest.mark.parametrize("way", (directly, by_messages, really), ids=("directly", "by messages", "the system"))
 def test_marks(request, way):
@@ -229,7 +229,7 @@ def test_marks(request, way):
             assert told_by(lambda name=name: ways.change(name, size=1)) == "EPERM", name
         assert told_by(ways.ls, "") == told_by(ways.ls, ":all") == ["x"], "no listing shows them"
         assert len({ways.stat(name).inode for name in (".nomedia", ".metadata_never_index", "x", "")}) == 4, "inodes"
-        # A file of the image goes first.
+        # A file of the image hides a mark.
         ways.put("music/.nomedia", b"mine")
         assert ways.get(".nomedia") == b"mine" and told_by(ways.put, ".nomedia", b"more") is None and ways.get("music/.nomedia") == b"more"
         ways.unlink(".nomedia")

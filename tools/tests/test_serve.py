@@ -1,4 +1,4 @@
-"""`tools/serve` and `tools/talk`: clients at a real socket, with what they are shown beside what `lisfs run` shows."""
+"""`tools/serve` and `tools/talk`: clients at a real socket, and what they are shown compared with what `lisfs run` shows."""
 import os
 import random
 import subprocess
@@ -17,7 +17,7 @@ CUT = b"no 03 cut payload\n"
 
 
 def test_as_run():
-    """One client after another shows what `run` shows, on a twin of the image."""
+    """Clients in sequence are shown what `run` shows, on a twin of the image."""
     chance = random.Random(1)
     make("twin")
     with Served(make("image")):
@@ -25,7 +25,7 @@ def test_as_run():
             data = random_input(chance, AT_THE_END)
             assert talked(data) == (0, ran("twin", data), ""), f"talk {number}"
         for number in range(80):
-            # What stands for half a command is not carried out here, where the server can't tell who ended it.
+            # Half a command does not run here, where the server can't know who ended it.
             data = random_input(chance, (b"", b"add N 3\nab", b"add N 1048578\nab"))
             assert drive([Peer(data, piece=chance.choice((1_000, 4_096, 65_536)))])[0] == ran("twin", data), f"client {number}"
     assert ran("image", b"ls\nstat\n") == ran("twin", b"ls\nstat\n"), "both images show the same"
@@ -58,7 +58,7 @@ def test_a_python_program_over_talk(served):
 
 
 def test_harmless_shows(served):
-    """On a terminal no bytes of a file do anything."""
+    """On a terminal the bytes of a file do nothing."""
     content = b"\x1b]0;title\x07\xc2\x9b2J\xff\ttext\r\nok\n"
     with Terminal([TALK, "socket"]) as terminal:
         assert talked(b"add x %d\n%b\n" % (len(content), content))[:2] == (0, b"ok\n"), "a file"
@@ -78,7 +78,7 @@ def test_harmless_messages(image):
 
 
 def test_returns():
-    """A line with more than one CR at its end is judged as `run` judges it, and the next one of another client is no part of it."""
+    """A line with more than one CR at its end is judged as `run` judges it, and the next one of another client is not part of it."""
     with Served(make("image")) as served, connected() as one, connected() as other:
         bad = b"no 01 bad line\n"
         assert asked(one, b"add x 20\r\r\n", len(bad)) == bad, "a count with a CR is none"
@@ -91,11 +91,11 @@ def test_returns():
 
 @pytest.mark.parametrize("number", range(2))
 def test_eight(number):
-    """Eight clients at once, each of which is shown what `run` shows of its commands alone."""
+    """Eight clients at once, each of which is shown what `run` shows for its commands alone."""
     chance = random.Random(number)
     sessions = [random_session(chance, b"own%d" % k, 150) for k in range(8)]
     with Served(make("image")):
-        # At both ends the clients are as different as can be: bytes, pieces, and all at once.
+        # The clients differ as much as possible in how they send and read: bytes, pieces, and all at once.
         pieces = [7, 100, 1_000, 65_536, 65_536, 65_536, 65_536, 65_536]
         got = drive([Peer(session, piece=piece) for session, piece in zip(sessions, pieces)])
         talks = [subprocess.Popen([TALK, "socket"], stdin=subprocess.PIPE, stdout=subprocess.PIPE) for _ in range(8)]
@@ -129,7 +129,7 @@ def test_a_long_line_is_refused_to_its_own_client(served):
 
 
 def test_not_reading(served):
-    """A client that never reads holds up nobody, and takes little memory; who comes behind it begins at the root."""
+    """A client that never reads delays nobody, and uses little memory; the client after it starts at the root."""
     content = os.urandom(MAX_PAYLOAD)
     assert talked(b"mkdir deep\nadd large %d deep\n%b\n" % (MAX_PAYLOAD, content))[1] == b"ok\nok\n", "a large file"
     before = served.memory()
@@ -141,7 +141,7 @@ def test_not_reading(served):
             peer.close()
         for number in range(7):
             assert drive([Peer(b"pwd\n")])[0] == PWD, f"the place behind a client that is gone, {number}"
-        # One that has ended its input keeps its room until it has read.
+        # A client that has ended its input keeps its room until it has read.
         late = Peer(b"cat large\n" * 3)
         while late.left:
             late.send()
@@ -152,7 +152,7 @@ def test_not_reading(served):
 
 
 def beside_deaf_ones(deaf, other):
-    """Another client is replied to a hundred times since any of these took something: held up by one of them it would wait without end."""
+    """Another client gets a hundred replies after any of these last read something: if one of them delayed it, it would wait without end."""
     count, taken = 0, []
     while count < 100:
         for peer in deaf:
@@ -162,19 +162,19 @@ def beside_deaf_ones(deaf, other):
         count = count + 1 if taken == before and all(size > len(b"ok\n") for size in taken) else 0
 
 
-# The program, behind what notes what it is given.
+# The program, with a script before it that notes its input.
 NOTING = """#!/bin/sh
 tee -a notes | "$REAL" "$@"
 """
 
 
 def test_busy():
-    """Clients that send one command after another, and read, don't hold up another one: each has one carried out, at most, between two of its."""
+    """Clients that send one command after another, and read, don't delay another one: between two of its commands at most one of each runs."""
     with Served(make("image"), program=script("noting", NOTING)):
         peers = [Peer(b"pwd\n" * 400_000) for _ in range(7)]
         other = Peer(b"", ends=False)
         drive(peers, lambda: all(peer.got for peer in peers))
-        # Twenty at once, so that the next one is there whenever it may go on, until enough was carried out between them.
+        # Twenty at once, so that the next one is ready whenever it may run, until enough ran between them.
         while sum(between_those()) < 2_000:
             other.left, other.got = b"stat\n" * 20, b""
             drive(peers + [other], lambda: other.got.count(b"ok\n") == 20)
@@ -186,7 +186,7 @@ def test_busy():
 
 
 def between_those():
-    """How many commands of others were carried out between each two of those that came at once."""
+    """How many commands of others ran between each two of those that came at once."""
     with open("notes", "rb") as notes:
         lines = notes.read().split(b"\n")
     # The first one is the server's own.
@@ -209,7 +209,7 @@ def test_ninth(served):
     peers[3] = connected()
     assert asked(peers[3], b"cd w3\n", 3) == b"ok\n", "and again"
     assert talked(b"pwd\n")[0] == 1, "it is full again"
-    # Gone while a reply is under way, without one byte read.
+    # Gone while a reply is under way, without reading one byte.
     peers[3].sendall(b"stat\n" * 1_000)
     peers[3].close()
     assert talked(b"pwd\n") == (0, PWD, ""), "who comes right behind"
@@ -223,7 +223,7 @@ def test_ninth(served):
 
 
 def test_hang_ups():
-    """Of the half command of a client that is gone nothing is done."""
+    """The half command of a client that is gone does nothing."""
     with Served(make("image")) as served:
         assert talked(b"add a 1\na\nadd ab 1\nb\n")[1] == b"ok\nok\n", "files"
         for data, reply in ((b"rm a", b""), (b"rm ab", b""), (b"add c 5\n", CUT), (b"add c 5\nabc", CUT), (b"add c 5\nabcde", b""),
@@ -233,7 +233,7 @@ def test_hang_ups():
                 peer.sendall(data)
             reset = connected()
             reset.sendall(b"pwd\n" * 10 + data)
-            # Something unread is left, so that the server finds the connection broken off.
+            # Something unread is left, so that the server finds the connection reset.
             reset.recv(1)
             reset.close()
             assert drive([Peer(data)])[0] == reply, f"{data[:20]} at the end of an input"

@@ -1,4 +1,4 @@
-"""`tools/serve`: how it ends, by signals, by its program's end, and when it is killed."""
+"""`tools/serve`: how it ends: by signals, when its program ends, and when it is killed."""
 import os
 import random
 import signal
@@ -15,7 +15,7 @@ from support.waiting import LONG, children, not_taken, rest, stop, unread, until
 
 pytestmark = [pytest.mark.usefixtures("rooms"), pytest.mark.limits(*LIMITS)]
 ENDING = (signal.SIGTERM, signal.SIGINT, signal.SIGHUP)
-# The program, which begins when it may; and which does not end.
+# A program that starts when it may; and one that does not end.
 LATER = """#!/bin/sh
 touch begun
 until [ -e go ]; do sleep 0.01; done
@@ -48,7 +48,7 @@ def test_the_end_of_the_program():
         talk.stdin.flush()
         assert talk.stdout.read(7) == PWD, "a talk"
         with connected() as other:
-            # One that is read from the disk, and not out of an open record.
+            # One that is read from the disk, and not from an open record.
             assert asked(other, b"add x 70000\n" + bytes(70_000) + b"\n", 3) == b"ok\n", "a file"
             os.truncate("image", 4_096)
             assert asked(other, b"cat x\n", 9) == b"", "the command at which it ends"
@@ -72,11 +72,11 @@ def test_a_killed_program():
 
 @pytest.mark.parametrize("number", ENDING)
 def test_signals(number):
-    """A signal ends the server in good order: what is under way is replied to, and what was acknowledged is there."""
+    """A signal ends the server in order: what is under way is replied to, and what was acknowledged is there."""
     content = os.urandom(MAX_PAYLOAD)
     with Served(make("image"), start_new_session=True) as served:
         assert talked(b"add large %d\n%b\n" % (MAX_PAYLOAD, content))[1] == b"ok\n", "a large file"
-        # Of one file each, so that they meet no limit, wherever they are when it comes.
+        # Each has one file, so that they meet no limit, wherever they are when it comes.
         peers = [Peer(b"add k%d 5\n%05d\n" % (k, 0) + b"".join(b"write k%d 5\n%05d\n" % (k, n) for n in range(1, 20_000))) for k in range(6)]
         late = Peer(b"cat large\n" * 9)
         late.send()
@@ -143,14 +143,14 @@ def test_the_end_while_the_program_does_not_answer(image, data):
 
 
 def test_a_program_that_does_not_end(image):
-    """It has replied to all before."""
+    """It has replied to everything before."""
     with Served(patience=0.5, program=script("lasting", LASTING)) as served:
         assert talked(b"pwd\n") == (0, PWD, ""), "a reply"
         assert served.end() == stuck_after(0.5), "the end where the program does not end"
 
 
 def end_beside_deaf(content, patience):
-    """How a server ends that has so much patience, and one client which never reads."""
+    """How a server ends that has this patience, and one client which never reads."""
     with Served(make("image"), patience=patience) as served:
         assert talked(b"add large %d\n%b\n" % (MAX_PAYLOAD, content))[1] == b"ok\n", "a large file"
         deaf = Peer(b"cat large\n" * 9)
@@ -183,7 +183,7 @@ def test_a_talk_says_that_not_all_was_replied_to():
     content = os.urandom(MAX_PAYLOAD)
     with Served(make("image"), start_new_session=True) as served, written("session", b"cat x\n" * 10_000) as session:
         assert talked(b"add x 1000\n%b\n" % content[:1_000])[1] == b"ok\n", "a file"
-        # It is replied to with more than anybody keeps, and has shown one byte.
+        # Its reply has more bytes than any buffer holds, and one byte was shown.
         talk = subprocess.Popen([TALK, "socket"], stdin=session, stdout=subprocess.PIPE, stderr=subprocess.PIPE)
         assert talk.stdout.read(1) == b"b", "a talk that has sent all"
         served.finds(signal.SIGTERM)
@@ -197,7 +197,7 @@ def content_of(name, size):
 
 
 def image_shows(image, names):
-    """The bytes of files, or None for one that is not there. A program that was left alone may have the lock for a moment."""
+    """The bytes of files, or None for a missing one. A program that was left alone may have the lock for a moment."""
     def got():
         try:
             with images.session(image) as program:
@@ -225,8 +225,8 @@ def writer(chance, k):
 
 
 def test_kills(server_kill):
-    """Servers, programs, both and clients that are killed at random points: the files of each client are those after some of its commands, no
-    fewer than were acknowledged, and where its server or program was killed at most one more."""
+    """Servers, programs, both and clients that are killed at random points: the files of each client are those after some of its commands, no fewer
+    than were acknowledged, and if its server or program was killed at most one more."""
     chance, killed = random.Random(server_kill), KILLED[server_kill % len(KILLED)]
     writers = [writer(chance, k) for k in range(8)]
     data = [b"".join(b"%b %b %d\n%b\n" % (word, name, len(content), content) for word, name, content in commands) for commands in writers]
@@ -247,7 +247,7 @@ def test_kills(server_kill):
 
 
 def killed_beside(served, killed, data, wanted):
-    """What eight clients were shown when a server, its program or both were killed, which was so much of all together."""
+    """What eight clients were shown when a server, its program or both were killed, after a number of bytes in all."""
     peers = [Peer(part) for part in data]
     drive(peers, lambda: sum(len(peer.got) for peer in peers) >= wanted)
     program = served.program()
@@ -258,7 +258,7 @@ def killed_beside(served, killed, data, wanted):
 
 
 def has_prefix(there, commands, least, most):
-    """Whether the files are those after so many commands."""
+    """Whether the files are those after this many commands."""
     for count in range(least, min(most, len(commands)) + 1):
         made = {name: content for _, name, content in commands[:count]}
         if all(there[name] == made.get(name) for _, name, _ in commands):
@@ -267,7 +267,7 @@ def has_prefix(there, commands, least, most):
 
 
 def killed_talks(data, wanted):
-    """What eight clients had shown when they were killed, which was so much of all together."""
+    """What eight clients had shown when they were killed, after a number of bytes in all."""
     shown = [tempfile.TemporaryFile() for _ in data]
     talks = []
     for number, (part, out) in enumerate(zip(data, shown)):

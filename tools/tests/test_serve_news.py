@@ -1,4 +1,4 @@
-"""What a server says to its clients of what others have changed, and what clients make of it."""
+"""What a server reports to its clients about changes of others, and what clients make of it."""
 import contextlib
 import os
 import random
@@ -29,14 +29,14 @@ def beside(image, rooms):
 
 
 def asked(*lines, image="image"):
-    """What a talk of these lines shows, none of which is refused."""
+    """The output of a talk with these lines, none of which is refused."""
     status, shown, said = talked(b"".join(line + b"\n" for line in lines), f"{image}.socket")
     assert (status, said) == (0, "") and not shown.startswith(b"no ") and b"\nno " not in shown, (shown, said)
     return shown
 
 
 def held(dump):
-    """What a dump, or a history, says that an image holds."""
+    """What an image holds, by a dump or a history."""
     return dump.declared, dump.axioms, dump.files
 
 
@@ -48,11 +48,11 @@ def joined(beside):
         yield session
 
 
-# The history: what a server knows of its image without asking it.
+# The history: what a server knows of its image without asking for it.
 
 @pytest.mark.parametrize("number", range(3))
 def test_a_server_knows_what_the_image_holds(image, number):
-    """After random commands of eight clients, refused ones among them, at places of any kind."""
+    """After random commands of eight clients, some of them refused, at places of any kind."""
     chance = random.Random(number)
     more = (b"cd %b/((%ba))\ncreate %b+1\nmv %b+1 ..\nmv %b+1 %bb/(%bc/%ba)\ncd ..\nmv %b+1 /\nmkdir %bd\ncd /%b|%ba\ncreate %b+2\n")
     with Served(image, SOCKET) as server:
@@ -74,7 +74,7 @@ def test_a_place_without_its_last_step(place, wanted):
 
 
 def test_a_client_keeps_in_step(joined, image):
-    """An index that takes in the news is that of the image, after random commands of others and of its own."""
+    """An index that applies the news is that of the image, after random commands of others and of its own client."""
     chance = random.Random(7)
     kept = images.Image(joined.program, joined.dump, limits_of(image))
     kept.describe(kept.index.files.values())
@@ -101,7 +101,7 @@ def test_a_client_keeps_in_step(joined, image):
 
 
 def test_news(joined):
-    """What others do, and nothing of what this one does."""
+    """What others do, and nothing of what this client does."""
     program = joined.program
     assert program.news() is None
     asked(b"mkdir music", b"mkdir rock", b"axiom rock music", b"create song rock", b"add other 3", b"abc")
@@ -124,7 +124,7 @@ def test_news(joined):
 
 
 def test_news_of_what_both_have_changed(joined):
-    """What a client does to a file that it does not know yet, as one that has just been renamed, is said to it too."""
+    """What a client does to a file that it does not know yet, for example one that has just been renamed, is reported to it too."""
     program = joined.program
     asked(b"create a", b"create other")
     program.create(b"mine")
@@ -150,7 +150,7 @@ def test_a_place_decides_what_a_file_is_given(joined):
 
 
 def test_news_of_long_ago():
-    """A client that knows only what is not kept any more is told all."""
+    """A client that knows only changes that are no longer kept is sent the whole state."""
     with open("image", "wb"):
         history = History(Dump(), "image", kept=4)
     for number in range(3):
@@ -193,7 +193,7 @@ def test_lines_that_are_none(beside, line):
     assert talked(line + b"\npwd\n", SOCKET) == (0, b"no 01 bad line\n" + PWD, "")
 
 
-# Who is joined, and who is not.
+# Clients, and tools that are none.
 
 def test_the_end_of_the_server(joined, beside):
     assert beside.end() == (0, "")
@@ -218,7 +218,7 @@ def test_no_server(image):
 
 
 def test_a_server_of_another_file(beside, image):
-    """Another file has the image's name by now: nobody serves that."""
+    """Another file has the image's name by now, which nobody serves."""
     shutil.copy(image, "copy")
     os.rename("copy", image)
     assert served.joined(image) is None
@@ -227,7 +227,7 @@ def test_a_server_of_another_file(beside, image):
 
 
 def test_a_server_of_another_kind(image):
-    """What listens there is no server that knows what has changed."""
+    """The listener is no server that knows what has changed."""
     with socket.socket(socket.AF_UNIX) as listener:
         listener.bind(SOCKET)
         listener.listen()
@@ -247,7 +247,7 @@ def test_a_server_of_another_kind(image):
 
 
 def test_a_socket_of_another_user(image, root):
-    """What a user listens to who may not write the image is not believed."""
+    """A listener of a user who may not write the image is not believed."""
     child = os.fork()
     if not child:
         with socket.socket(socket.AF_UNIX) as listener:

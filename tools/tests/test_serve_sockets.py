@@ -1,4 +1,4 @@
-"""`tools/serve`: its socket, and the lock with which it begins."""
+"""`tools/serve`: its socket, and the lock that it holds at the start."""
 import contextlib
 import fcntl
 import os
@@ -17,13 +17,13 @@ pytestmark = pytest.mark.usefixtures("rooms")
 
 @pytest.fixture(autouse=True)
 def four_images(rooms, folder):
-    """Images of no matter what, by the names image0 to image3."""
+    """Any images, with the names image0 to image3."""
     for k in range(4):
         make(f"image{k}", ("64", "64", "8"))
 
 
 def modes_of(front):
-    """The modes of all that has a name of this front."""
+    """The modes of all paths with this prefix."""
     modes = set()
     for name in os.listdir("."):
         with contextlib.suppress(FileNotFoundError):
@@ -33,7 +33,7 @@ def modes_of(front):
 
 
 def test_sockets():
-    """The socket is its owner's alone, and only that of a server that is gone is replaced."""
+    """The socket is for its owner alone, and only that of a server that is gone is replaced."""
     served = Served("image0", wait=False, preexec_fn=lambda: os.umask(0))
     modes = set()
     while served.process.poll() is None and not os.path.exists("socket"):
@@ -57,7 +57,7 @@ def test_sockets():
     assert talked(b"pwd\n") == (1, b"", "talk: socket: no server is there: No such file or directory\n"), "nobody is there"
 
 
-# Paths at which there is no socket, and none can be, and other words that are wrong.
+# Paths at which there is no socket, and none can be, and other wrong arguments.
 
 def test_a_plain_file():
     written("plain", b"x").close()
@@ -96,9 +96,9 @@ def test_wrong_use(words):
 
 
 def waiting_for_lock(image):
-    """A server that waits for a lock which another one has."""
+    """A server that waits for a lock that another one has."""
     waiting = Served(image, wait=False)
-    # It has the lock file open for a moment at each look, which another process may never see: its program is there before the first one.
+    # It has the lock file open only for a moment at each try, which another process may never see; its program starts before the first try.
     assert until(lambda: children(waiting.process.pid)), "it has come to the lock"
     looks = until(lambda: waits_of(waiting.process.pid)) + 20
     until(lambda: (waits_of(waiting.process.pid) or 0) > looks)
@@ -106,7 +106,7 @@ def waiting_for_lock(image):
     return waiting
 
 
-# A server has a lock of its own, which it waits for, and what others lock does not concern it.
+# A server has a separate lock, which it waits for, and locks of other files do not matter.
 
 def test_a_folder_that_another_program_has_locked():
     folder = os.open(".", os.O_RDONLY)
@@ -136,7 +136,7 @@ def test_a_signal_while_the_lock_is_waited_for(lock):
 
 def test_two_that_wait_for_the_lock(lock):
     waiting, other = waiting_for_lock("image0"), waiting_for_lock("image1")
-    # The one that has it removes its name first, and another file may have this name then.
+    # The one that has it first removes its name, and another file may have this name then.
     os.unlink("socket.lock")
     lock.close()
     assert until(lambda: answers("socket")), "of two that waited one serves"
@@ -154,7 +154,7 @@ def a_plain_file():
     (lambda: os.symlink("plain", "socket.lock"), "Too many levels of symbolic links"), (lambda: os.mkdir("socket.lock"), "Is a directory")),
     ids=("bytes", "a pipe", "a link", "a folder"))
 def test_no_lock_file(make_it, cause):
-    """What is no lock file of a server stays as it is."""
+    """A file that is no lock file of a server stays as it is."""
     make_it()
     before = os.lstat("socket.lock")
     assert refusing("image0") == (1, f"serve: socket.lock: {cause}\n"), "what is said"
@@ -168,7 +168,7 @@ def test_a_lock_file_that_a_killed_server_left():
 
 
 def test_at_once():
-    """Of several servers that begin at once one finds the other."""
+    """Of several servers that start at once one serves, and the others find it."""
     several = [Served(f"image{k}", wait=False) for k in range(4)]
     assert until(lambda: sum(one.process.poll() is None for one in several) == 1), "of several that begin at once one serves"
     assert talked(b"pwd\n") == (0, PWD, ""), "a client of it"
@@ -198,7 +198,7 @@ def test_the_longest_path():
     nothing_is_left(longest)
 
 
-# The server, and another program: as the last thing before the socket is named it makes something there, or it left a socket at the first
+# The server, and another program: just before the socket gets its name, that program makes something there, or it left a socket at the temporary
 # name; or the server can't listen.
 MEANWHILE = r"""
 import errno, os, runpy, socket, sys
@@ -238,7 +238,7 @@ runpy.run_path(sys.argv[0], run_name="__main__")
 """
 
 
-# What others make at the path while a server begins stays, and a server that does not begin leaves nothing.
+# What others make at the path while a server starts stays, and a server that does not start leaves nothing.
 
 def beside(what):
     """The command of a server, and another program."""

@@ -29,7 +29,7 @@ SOCKET = "image.socket"
 
 
 def joins(tool):
-    """What a tool says that is a client."""
+    """What a tool says that becomes a client."""
     return f"{tool}: image is served: a client of {SOCKET}\n"
 
 
@@ -41,7 +41,7 @@ def beside(image, rooms):
 
 
 def asked(*lines):
-    """What another client is shown of these lines, none of which is refused."""
+    """What another client is shown for these lines, none of which is refused."""
     status, shown, said = talked(b"".join(line + b"\n" for line in lines), SOCKET)
     assert (status, said) == (0, "") and not re.search(rb"^no \d\d$", shown, re.MULTILINE), (shown, said)
     return shown
@@ -54,7 +54,7 @@ def write(name, content):
 # The prompt.
 
 class Script:
-    """A prompt whose lines come one by one, in a `with` block."""
+    """A prompt that gets its lines one by one, in a `with` block."""
 
     def __init__(self):
         self.child = subprocess.Popen([SHELL, "image"], stdin=subprocess.PIPE, stdout=subprocess.PIPE, stderr=subprocess.PIPE, bufsize=0)
@@ -70,7 +70,7 @@ class Script:
         self.status = self.child.wait(LONG)
 
     def shows(self, line, wanted):
-        """Whether a line shows this, and `pwd` behind it nothing more."""
+        """Whether a line shows this, and `pwd` after it nothing more."""
         self.child.stdin.write(line + b"\npwd\n")
         got = b""
         while not got.endswith(b"w /\n") and (more := self.child.stdout.read(1)):
@@ -165,7 +165,7 @@ def test_two_browsers(pages):
 
 
 def test_pages_while_others_change(pages):
-    """Each page shows a state of the image, whatever others do meanwhile, and the last one the last state."""
+    """Each page shows a state of the image, whatever others do meanwhile, and the last page the last state."""
     visitor = pages[1]
     asked(b"mkdir w", b"mkdir v", b"axiom v w", *(b"create f%d" % k for k in range(60)))
 
@@ -187,7 +187,7 @@ def test_pages_while_others_change(pages):
 
 
 def test_an_undo_beside_another_client(pages):
-    """One that is refused changes nothing, and can be tried again; nobody loses bytes by it."""
+    """An undo that is refused changes nothing, and can be tried again; nobody loses bytes by it."""
     visitor = pages[1]
     token = visitor.token()
     visitor.does("declare", {**token, "word": "jazz", "at": "/"}, True)
@@ -233,7 +233,7 @@ def test_two_mounts(mounts):
 
 
 def shuffle(ways, own, seed, fine):
-    """Makes, writes, moves, renames and removes files in a mount, some of them those of others, and looks at what is there."""
+    """Makes, writes, moves, renames and removes files in a mount, some of them those of others, and checks what is there."""
     chance = random.Random(seed)
     for number in range(120):
         names = [name for name in told_by(ways.ls, ":all") if isinstance(name, str)] or ["none"]
@@ -245,7 +245,7 @@ def shuffle(ways, own, seed, fine):
 
 
 def test_two_busy_mounts(mounts):
-    """Each shows at the end what the other one shows, and is never wrong in another way than that somebody was quicker."""
+    """At the end each shows what the other one shows, and the only errors are those of a change that another client made first."""
     one, other = mounts
     one.mkdir("a")
     one.mkdir("b")
@@ -265,7 +265,7 @@ def test_two_busy_mounts(mounts):
 
 @pytest.mark.usefixtures("fuse")
 def test_a_mount_whose_server_ends(monkeypatch, beside):
-    """The folder is free then, and what was not kept is named."""
+    """The folder is free then, and what was not stored is named."""
     mount, ways = mounted_by("one", monkeypatch)
     ways.put("kept", b"bytes")
     handle = ways.open("new", os.O_WRONLY | os.O_CREAT)
@@ -318,7 +318,7 @@ def test_what_a_mount_shows(asker):
     assert asker.ls("music") == ["tune"] and asker.ls("") == ["music/", "rock/", "year:/", "other"]
     asked(b"rm tune", b"rm loud", b"rmdir rock", b"rmdir music")
     assert asker.ls("") == ["year:/", "other"]
-    # What is made here is made at once, since another client may take the name.
+    # A new file is made at once, since another client may take the name.
     handle = asker.open("new", os.O_WRONLY | os.O_CREAT)
     assert asked(b"cat new") == b"b 0\n\nok\n"
     asker.write(handle, b"bytes", 0)
@@ -328,7 +328,7 @@ def test_what_a_mount_shows(asker):
 
 
 def test_a_file_that_another_client_removes_while_it_is_open(asker):
-    """Nobody is told that bytes are kept which are not."""
+    """No call reports that bytes are stored which are not."""
     asked(b"add one 3", b"abc", b"add two 3", b"abc")
     reading, writing = asker.open("one", os.O_RDONLY), asker.open("two", os.O_WRONLY)
     asker.write(writing, b"x", 0)
@@ -342,7 +342,7 @@ def test_a_file_that_another_client_removes_while_it_is_open(asker):
 
 
 def test_a_file_that_is_open_and_written_by_another_client(asker):
-    """Who has it open and wrote nothing since sees the new bytes."""
+    """A program that has it open and wrote nothing since sees the new bytes."""
     asker.put("notes", b"first")
     handle = asker.open("notes", os.O_RDWR)
     asker.write(handle, b"F", 0)
@@ -367,7 +367,7 @@ def top():
 
 
 def test_sync_and_another_client(top):
-    """What another client changed is not written over, and what it left alone is brought in again."""
+    """What another client changed is not overwritten, and what it left alone is brought in again."""
     assert asked(b"cat a.txt") == b"b 16\na.txt as it was\n\nok\n"
     write(b"b.txt", b"by hand")
     images.written("top/a.txt", b"new")
@@ -430,7 +430,7 @@ def test_a_folder_with_the_image_in_it(beside):
 
 
 def test_two_syncs_at_once(top):
-    """Each brings in its own folder; what the other was quicker to name it brings in at the next run."""
+    """Each brings in its own folder; names that the other one used first are brought in at the next run."""
     for k in range(2):
         for number in range(30):
             images.written(f"more{k}/f{number}", b"%d %d" % (k, number))
@@ -482,7 +482,7 @@ def test_wrong_words_for_an_editor(name, formula, said):
 
 
 def test_a_session_of_import():
-    """The session that `import` makes is for a talk too, also where a line has as many words as fit."""
+    """The session of `import` works for a talk too, even if a line has as many words as fit."""
     images.written("top/" + "d" * 60 + "/" + "e" * 60 + "/" + "n" * 60, b"x")
     words = [word for k in range(14) for word in ("--word", f"{k:02}" + "w" * 58)]
     session = subprocess.run([support.tool("import"), "--by-folder", *words, "top"], capture_output=True, check=True, timeout=LONG).stdout

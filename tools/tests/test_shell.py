@@ -1,4 +1,4 @@
-"""`tools/shell`: scripts, refusals by their numbers, files in and out, counts, and what Tab makes of a line."""
+"""`tools/shell`: scripts, refusals by their numbers, files in and out, counts, and what Tab completes."""
 import contextlib
 import fcntl
 import os
@@ -35,7 +35,7 @@ ALL_BYTES = bytes(range(256))
 def test_scripts(program, number):
     name, script, shown, told = SCRIPTS[number]
     make(script=TAKEN)
-    # Some by a shell of their own, and the others within this process, which is quicker.
+    # Some with a separate shell, and the others within this process, which is faster.
     with within() if number % 4 else contextlib.nullcontext(shell) as answer:
         assert answer(script) == (1 if told else 0, shown, told), name
 
@@ -49,7 +49,7 @@ def test_help(image):
 
 @pytest.fixture(scope="module")
 def helped(program, tmp_path_factory):
-    """What is told of each command."""
+    """The help text of each command."""
     image = make(str(tmp_path_factory.mktemp("helped") / "image"))
     return shell(b"".join(b"help %b\npwd\n" % name.encode() for name in COMMANDS), image)
 
@@ -67,7 +67,7 @@ def test_help_of_a_command(helped, number):
 
 
 def random_lines(rng, count):
-    """Lines of all commands of the program, most of them in form, and bytes behind some."""
+    """Lines of all commands of the program, most of them well formed, and bytes after some."""
     names, words = ["a", "b.c", "m.eml", "n"], ["u", "v", "w", "h:", "h:1", "h:2", "g:", "g:x", "size>=3", "size<2", "ext:c", "from:a@b", "q"]
     formulas = words + ["/", "..", "u/v", "u|!v", "/h:1/size>=2", "!w", "(u|v)/!h:", "u/", "/from:"]
     data = [b"", b"xy", b"From: a@b\n\nhi", b"#include <s.h>\n", b"ok\n\0\r\n", b"long " * 30]
@@ -89,7 +89,7 @@ def random_lines(rng, count):
 
 @pytest.mark.parametrize("seed", range(6))
 def test_as_run(program, seed):
-    """What is shown is what `lisfs run` shows, without what tells the end of a reply, and what is known of the image is what is there."""
+    """The shell shows what `lisfs run` shows, without the ends of replies, and what it knows of the image is true."""
     script = random_lines(random.Random(seed), 250)
     make()
     shutil.copy("image", "copy")
@@ -121,7 +121,7 @@ def counted(program):
 
 
 def numbers_by_command(page):
-    """Of each command the numbers of its refusals in their order, as docs/MODEL.md has them."""
+    """For each command the numbers of its refusals in order, as docs/MODEL.md has them."""
     found = {}
     for row in re.finditer(r"^\| (`\w+`(?:, `\w+`)*) \| (?:`\w+`(?:, `\w+`)*|the same names) \| (.*) \|$", page, re.M):
         numbers = []
@@ -187,7 +187,7 @@ FILES = {"empty": b"", "all.bytes": ALL_BYTES * 3, "large": random.Random(7).ran
 
 @pytest.mark.limits("64", "64", "64")
 def test_files(image):
-    """What goes in and comes out is the same, and nothing is written over."""
+    """What goes in and comes out is the same, and nothing is overwritten."""
     make(limits=("64", "64", "64"), script=b"mkdir a\nmkdir b:\n")
     for name, data in FILES.items():
         written(name, data)
@@ -255,7 +255,7 @@ def test_the_most_of_version_2(program):
 
 
 def there(program, names):
-    """Which of these files are at the place of a program."""
+    """Which of these files are at a place, by the program."""
     for name in names:
         program.send(b"cat", name)
     found = set()
@@ -267,7 +267,7 @@ def there(program, names):
 
 
 def walked(program, steps=(), seen=None):
-    """The files of a place by its listings alone: those that are shown, and those behind each word."""
+    """The files of a place by its listings alone: those that are shown, and those below each word."""
     seen = set() if seen is None else seen
     if frozenset(steps) in seen:
         return set()
@@ -283,7 +283,7 @@ def walked(program, steps=(), seen=None):
 
 
 def test_counts(program):
-    """What `find` and `ls -c` say, beside what one comes to by `cd` and `ls` alone."""
+    """The results of `find` and `ls -c`, compared with those of `cd` and `ls` alone."""
     make(limits=("128", "512", "256"), script=library(80))
     names = re.findall(rb"^add (\S+) ", library(80), re.M)
     places, wanted = [], []
@@ -374,7 +374,7 @@ def test_a_search_that_can_miss_a_file(program):
 
 
 def test_values_that_begin_so(program):
-    """A value that no file has: those that begin so are named, the most frequent first, or else one that is near."""
+    """For a value that no file has, those that begin with it are named, the most frequent first, or else a similar one."""
     make(limits=("64", "128", "64"), script=b"mkdir year:\nmkdir music\n" + b"".join(
         b"add m%d.eml %d year:20%02d\n%b\n" % (number, len(mail), number, mail) for number, mail in enumerate(
             b"From: ann@example.org\nSubject: w%d\n\n" % number for number in range(3)))
@@ -394,7 +394,7 @@ def test_values_that_begin_so(program):
             assert answer(line.encode() + b"\n") == (1, b"", f"shell: {told}\n"), line
 
 
-# Over the files gig, album, single and notes: a line, what is shown, and the formula that is taken.
+# With the files gig, album, single and notes: a line, the output, and the formula that is used.
 SIDES = (
     ("find live|nosuch", b"gig\n", "live"), ("find nosuch|live", b"gig\n", "live"), ("find /(year:7|live)/music", b"gig\n", "/live/music"),
     ("find !(music|nosuch)", b"notes\n", "!music"), ("find live|(nosuch/music)", b"gig\n", "live"), ("ls nosuch|live", b"f gig\n", "live"),
@@ -404,7 +404,7 @@ SIDES = (
 
 @pytest.mark.parametrize("line, shown, taken", SIDES, ids=[line for line, *_ in SIDES])
 def test_a_word_that_no_file_has(program, line, shown, taken):
-    """Its side of `|` is left out, which a line says. The place stays, and `cd` of a script is that of the program."""
+    """Its side of `|` is left out, and a line says so. The place stays, and `cd` of a script is the program's."""
     make(script=TAKEN)
     os.mkdir("out")
     word = next(word for word in ("nosuch", "year:7", "single") if word in line)
@@ -425,7 +425,7 @@ def test_a_word_that_is_refused(program, line):
 
 
 def test_values_that_begin_so_beside_others(program):
-    """Also at a place, and words that were meant are named."""
+    """The same at a place, and words that may have been meant are named."""
     make(script=TAKEN)
     assert shell(b"cd music\nfind year:19|year:2003|musik\nfind /musik|live\npwd\n") == (
         0, b"album\ngig\ngig\nw music\n", "shell: year:19, musik: no file has these words, so the formula is `year:2003`; did you mean `year:1999`?\n"
@@ -442,7 +442,7 @@ def with_long_words(program):
     make(limits=("64", "128", "8"), script=TAKEN + b"mkdir a\n" + b"".join(b"mkdir %b\n" % (b"%02d" % k * 30) for k in range(20)))
 
 
-# The place is what it was behind `find`, also where one could not come back.
+# The place is the same after `find`, even if there is no way back to it.
 
 def test_a_word_that_nothing_has_any_more(with_long_words):
     gone = b"cd year:1999\nrm single\n"
@@ -452,7 +452,7 @@ def test_a_word_that_nothing_has_any_more(with_long_words):
 
 
 LONG_PLACE = b"".join(b"cd %b\n" % (b"%02d" % k * 30) for k in range(16))
-# 16 words of 60 bytes with their slashes print to 975 bytes, and the longest way back has 1,020.
+# 16 words of 60 bytes with their slashes print as 975 bytes, and the longest way back has 1,020.
 LONGER_PLACE = LONG_PLACE + b"cd !(a|(!music/(a|music)))|a|!music\n"
 
 
@@ -464,7 +464,7 @@ def test_a_long_place(with_long_words, steps, fits):
     assert shell(steps + b"find\npwd\nfind /!music\npwd\n") == ((0, at + b"notes\n" + at, "") if fits else (1, at + at, BACK)), "the place"
 
 
-# How it ends where something is amiss.
+# The end after an error.
 
 @pytest.fixture
 def taken(program):
@@ -528,7 +528,7 @@ def test_a_closed_stream(taken, closed):
 
 
 def test_completion(program):
-    """What Tab makes of a line, without a terminal."""
+    """What Tab completes in a line, without a terminal."""
     make(limits=("128", "512", "256"), script=library() + b"create other.txt\n")
     os.mkdir("in")
     os.mkdir("in/sub dir")
@@ -571,7 +571,7 @@ def test_completion(program):
         )
         for line, wanted in rows:
             completes(line, wanted)
-        # What is to be replaced may begin behind a blank that is escaped.
+        # The text to be replaced may begin after an escaped blank.
         assert completer.candidates(b"put in/on\\ t", len(b"put in/on\\ ")) == [b"two "], "behind a blank"
         assert completer.candidates(b"put in/sub\\ dir/", len(b"put in/sub\\ ")) == [b"dir/x "], "and in a folder"
         session.carry_out(b"cd w1")

@@ -24,7 +24,7 @@ def given(image="image"):
     return {name.decode(): " ".join(sorted(map(bytes.decode, stored.words))) for name, stored in dumped(image).files.items()}
 
 
-# Over the files gig, album, single and notes: a script, what comes on both streams, and what files were given that changed.
+# With the files gig, album, single and notes: a script, the output on both streams, and the given words of the changed files.
 TAGS = (
     ("one file and one word", b"tag notes live\n", b"1 of 1 file changed\n", "", {"notes": "live"}),
     ("some of each, in any order", b"tag notes live gig year:1999 album\n", b"3 of 3 files changed\n", "",
@@ -74,7 +74,7 @@ def test_tags(program, number):
 
 
 def test_a_place_that_nothing_leads_back_to(program):
-    """It has a word that nothing has any more, so the place is the root after a change; unless the change is undone that took it."""
+    """It has a word that nothing has any more, so after a change the place is the root; unless the change is undone that took it."""
     make(script=TAKEN + b"mkdir jazz\n")
     gone = "shell: (live|year:1999): a word of this place is not known any more, so the place is / now\n"
     steps = b"cd live|year:1999\nrm single\n"
@@ -95,7 +95,7 @@ def test_a_place_too_long(program):
 
 
 def test_many_words(program):
-    """Words that do not fit one line, and more than a file may have."""
+    """Words that do not fit one line, and more words than a file may have."""
     words = [b"w%02d" % number + b"x" * 57 for number in range(17)]
     make(limits=("64", "128", "64"), script=b"".join(b"mkdir %b\n" % word for word in words) + b"create a.b\ncreate c\ncreate d\nmkdir y\nmv d y\n")
     with within() as answer:
@@ -110,7 +110,7 @@ def test_many_words(program):
 
 
 def test_a_line_of_many_files(program):
-    """It may be longer than one of the program, which the shell makes commands of."""
+    """It may be longer than a line of the program: the shell makes several commands of it."""
     names = [b"%03d-" % number + b"n" * 50 for number in range(200)]
     make(limits=("256", "64", "8"), script=b"mkdir mine\nmkdir year:\n" + b"".join(b"create %b\n" % name for name in names))
     before, line = dump(), b" ".join(names[:150])
@@ -125,7 +125,7 @@ def test_a_line_of_many_files(program):
     assert dump() == before
 
 
-# Lines over these files, each of which one `undo` undoes.
+# Lines with these files, each of which one `undo` undoes.
 CHANGES = (b"mkdir jazz", b"mkdir size>=3", b"cd music\nmkdir jazz", b"rmdir spare", b"axiom live music", b"unaxiom rock music", b"create x live",
            b"add x 3 live\nabc", b"write text 2\nhi", b"write text 0\n", b"rename text other.c", b"mv gig spare", b"cd music/year:2003\nmv gig rock",
            b"cd music/year:2003\nmv gig ..", b"cd /live\nmv gig /rock/year:1", b"rm text", b"rm gig", b"cd music\nrm gig", b"put file text2 live",
@@ -135,7 +135,7 @@ CHANGES = (b"mkdir jazz", b"mkdir size>=3", b"cd music\nmkdir jazz", b"rmdir spa
 
 @pytest.mark.parametrize("line", CHANGES, ids=[line.split(b"\n")[-1][:20].decode() or line[:12].decode() for line in CHANGES])
 def test_undo(program, line):
-    """It leaves what was there before, words and bytes."""
+    """It restores what was there before, words and bytes."""
     make(script=TAKEN + b"mkdir rock\nmkdir spare\naxiom rock music\nmkdir size<9\naxiom size<9 rock\nadd text 4 live year:3\nold\n\n")
     written("file", b"new\n")
     before = dump()
@@ -167,12 +167,12 @@ def test_more_changes_than_are_kept(program):
 
 
 def test_what_is_refused_is_kept(program):
-    """Nothing should keep an undo from being done; where something does, it says why, and the change is still kept."""
+    """Nothing should prevent an undo; if something does, it says why, and the change is still kept."""
     make(limits=("64", "64", "3", "v2"))
     written("large", b"x" * 8_000)
     with within() as answer:
         assert answer(b"put large a\nwrite a 1\ny\nadd b 5000\n%b\n" % (b"z" * 5_000))[0] == 0
-        # As if this were no change of the shell: it takes the room.
+        # As if this were not a change of the shell: it takes the room.
         answer.session.kept.pop()
         assert answer(b"undo\n" * 2) == (1, b"", "shell: undo: write a 1: can't be undone now (no space); it is kept, and `undo` tries it again\n" * 2)
         assert answer(b"rm b\ncat a\n")[:2] == (0, b"y")
@@ -194,7 +194,7 @@ def random_steps(rng):
 
 @pytest.mark.parametrize("seed", range(8))
 def test_undo_of_any_lines(program, seed):
-    """What the shell knows of each file is what the dump says, and after as many `undo` as there were changes the image is as it was."""
+    """The shell's words of each file are those of the dump, and after as many `undo` as there were changes the image is as it was."""
     rng = random.Random(seed)
     make(limits=("64", "128", "64"), script=random_lines(rng, 60))
     before, steps = dump(), random_steps(rng)
@@ -230,7 +230,7 @@ def test_words_of_places(place, wanted):
 
 
 def test_most_words(program):
-    """A file that was given as many words as it can be is shown as such, and a search by another word says that it can miss it."""
+    """A file that was given as many words as possible is shown as such, and a search by another word says that it can miss it."""
     words = [b"w%02d" % number for number in range(MAX_ASSIGNED + 1)]
     make(script=b"".join(b"mkdir %b\n" % word for word in words) + b"create full %b\ncreate other w00\n" % b" ".join(words[:MAX_ASSIGNED]))
     assert shell(b"props other\n")[2] == "", "a file with room"
@@ -250,7 +250,7 @@ def test_most_words_in_all(program):
 # At a terminal.
 
 def test_questions(at_terminal):
-    """What `mv` shows and asks, and many files at once."""
+    """What `mv` shows and asks, and the question before many files are changed at once."""
     make(limits=("128", "64", "64"), script=TAKEN + b"mkdir jazz\n" + b"".join(b"create n%02d\n" % number for number in range(21)))
     with at_terminal(NO_COLOR="1") as at:
         at.sees(b"/> ")
@@ -279,12 +279,12 @@ def test_questions(at_terminal):
 
 
 def test_no_question_in_vain(at_terminal):
-    """A word that no file can be given is refused before anybody is asked, and only files that have room for it are counted."""
+    """A word that no file can be given is refused before any question, and only files that have room for it are counted."""
     words = [b"w%02d" % number for number in range(MAX_ASSIGNED)]
     make(limits=("64", "64", "8"), script=TAKEN + b"".join(b"mkdir %b\n" % word for word in words) + b"create full %b\n" % b" ".join(words)
          + b"".join(b"create n%02d\n" % number for number in range(25)))
     known = dict(line.split()[1:] for line in shell(b"stat\n")[1].splitlines())[b"known"]
-    # From then on no further word can become known.
+    # After that no further word can become known.
     fill = b"".join(b"tag n%02d year:%d\n" % (number % 25, number) for number in range(64 - int(known)))
     assert shell(fill)[0] == 0
     with at_terminal(NO_COLOR="1") as at:
@@ -330,7 +330,7 @@ def test_many_files_are_stopped(at_terminal):
 
 
 def test_a_library_by_words(program):
-    """Many files of all kinds: what a place has is what the program says, after changes too."""
+    """Many files of all kinds: the files of a place are those of the program, after changes too."""
     make(limits=("128", "512", "256"), script=library(60))
     with within() as answer:
         for line in (b"tag old in w1", b"untag w2 in /", b"axiom w0 old", b"unaxiom w2 w1", b"mkdir size>=9", b"untag w5 in !w1", b"undo", b"undo", b"undo"):

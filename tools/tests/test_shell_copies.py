@@ -27,7 +27,7 @@ def copied(folder="out"):
 
 
 def test_all_files_of_a_place(letters):
-    """Bytes and names are those of the image, and a place is said as in `tag`."""
+    """Bytes and names are those of the image, and a place is given as in `tag`."""
     os.mkdir("two words")
     os.mkdir("here")
     assert shell(b"get in date:0 out\npwd\ncd old\nget in date:1/!live here/\nget in /live 'two words'\npwd\nget in live two\\ words\n") == (
@@ -60,7 +60,7 @@ def test_a_file_of_this_name(program):
 
 
 def test_files_that_are_there(letters):
-    """In a script nothing is written over, which is said before anything is written."""
+    """In a script nothing is overwritten, which is said before anything is written."""
     written("out/f.txt", b"mine")
     assert shell(b"get in old out\n") == (1, b"", "shell: out: 1 of 7 files are there already: f.txt; nothing was copied\n")
     assert copied() == {"f.txt": b"mine"}
@@ -75,7 +75,7 @@ def test_files_that_are_there(letters):
 
 
 def test_a_question(at_terminal, letters):
-    """At a terminal it is asked once."""
+    """At a terminal there is one question."""
     for name in ("b.txt", "d.txt"):
         written(f"out/{name}", b"mine")
     os.symlink("../kept", "out/f.txt")
@@ -114,7 +114,7 @@ def test_a_failure_half_way(letters):
 
 
 def test_a_stop_half_way(at_terminal, program):
-    """Ctrl-C, and an end of the program."""
+    """After Ctrl-C, and after an end of the program."""
     names = [f"n{number:03}" for number in range(900)]
     make(limits=("1024", "64", "64"), script=TAKEN + b"".join(b"create %b live\n" % name.encode() for name in names))
     os.mkdir("out")

@@ -21,7 +21,7 @@ NO_BYTES = "shell: undo: {}, of an earlier shell: bytes that it removed or wrote
 
 
 def kept():
-    """The files of changes that were kept."""
+    """The files of kept changes."""
     return glob.glob(os.path.join(os.environ["XDG_STATE_HOME"], "lisfs", "undo-*"))
 
 
@@ -31,7 +31,7 @@ def taken(program):
 
 
 def test_the_next_shell(taken):
-    """It undoes the last change, once; a shell that changes nothing comes in between."""
+    """It undoes the last change, once, although a shell that changes nothing ran in between."""
     before = dump()
     assert shell(b"create other\n")[0] == 0
     between = dump()
@@ -51,7 +51,7 @@ def test_changes_of_this_shell_come_first(taken):
 
 @pytest.mark.parametrize("line", CHANGES, ids=[line.split(b"\n")[-1][:20].decode() or line[:12].decode() for line in CHANGES])
 def test_each_change(program, line):
-    """It is as before, or what was removed is named and the image stays as it is."""
+    """The image is as before, or what was removed is named and the image stays as it is."""
     make(script=TAKEN + b"mkdir rock\nmkdir spare\naxiom rock music\nmkdir size<9\naxiom size<9 rock\nadd text 4 live year:3\nold\n\n")
     written("file", b"new\n")
     before = dump()
@@ -70,7 +70,7 @@ def bytes_of_path(path):
         return file.read()
 
 
-# What another one does after a shell has made the file `x` of 3 bytes: commands, and those that undo them.
+# What another client does after a shell has made the file `x` of 3 bytes: commands, and those that undo them.
 OTHERS = (("another word", lambda program: program.mv(b"x", b"live"), lambda program: (program.cd(b"/live"), program.mv(b"x", b"/"))),
           ("another file", lambda program: program.create(b"y"), lambda program: program.rm(b"y")),
           ("other bytes", lambda program: program.write(b"x", b"xyz"), lambda program: program.write(b"x", b"abc")),
@@ -81,7 +81,7 @@ OTHERS = (("another word", lambda program: program.mv(b"x", b"live"), lambda pro
 
 @pytest.mark.parametrize("name, does, undoes", OTHERS, ids=[name for name, *_ in OTHERS])
 def test_what_has_changed_since(taken, name, does, undoes):
-    """Nothing is undone, unless the image is as it was again."""
+    """Nothing is undone, unless the image is in the same state again."""
     before = dump()
     assert shell(b"add x 3\nabc\n")[0] == 0
     with session() as program:
@@ -94,7 +94,7 @@ def test_what_has_changed_since(taken, name, does, undoes):
 
 
 def test_another_image(taken):
-    """At the same path another one is refused, and a copy elsewhere has no earlier shell."""
+    """At the same path another image is refused, and a copy elsewhere has no earlier shell."""
     shutil.copy("image", "copy")
     assert shell(b"tag notes live\n")[0] == 0
     assert shell(b"undo\n", "copy") == (1, b"", NOTHING)
@@ -115,7 +115,7 @@ def test_a_file_that_is_none(taken, spoil):
 
 
 def test_a_folder_that_can_not_be_written(taken):
-    """A shell ends as it does otherwise."""
+    """A shell ends as usual."""
     written("plain", b"")
     given = {**os.environ, "XDG_STATE_HOME": os.path.abspath("plain")}
     assert shell(b"tag notes live\n", env=given) == (0, b"1 of 1 file changed\n", "")
@@ -123,7 +123,7 @@ def test_a_folder_that_can_not_be_written(taken):
 
 
 def test_a_shell_that_is_killed(taken):
-    """It keeps nothing, and what an earlier one kept is not undone."""
+    """It keeps nothing, and what an earlier shell kept is not undone."""
     assert shell(b"tag notes live\n")[0] == 0
     with subprocess.Popen([SHELL, "image"], stdin=subprocess.PIPE, stdout=subprocess.PIPE) as killed:
         killed.stdin.write(b"create other\npwd\n")
@@ -136,7 +136,7 @@ def test_a_shell_that_is_killed(taken):
 
 
 def test_a_served_image(rooms):
-    """Of one nothing is kept or undone, and what was kept before is found again."""
+    """For a served image nothing is kept or undone, and what was kept before is found again."""
     make(script=TAKEN)
     assert shell(b"tag notes live\n")[0] == 0
     with Served("image", None):

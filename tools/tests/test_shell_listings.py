@@ -12,7 +12,7 @@ from support.waiting import children, rest
 
 MANY = TAKEN + b"mkdir size>=2\nmkdir tag:\nadd big 3 year:2003\nabc\n" + b"".join(
     b"create n%02d tag:%02d year:1999\n" % (number, number % 25) for number in range(30))
-# What readline says to a terminal before and after a line.
+# What readline sends to a terminal before and after a line.
 PASTES = re.compile(r"\x1b\[\?2004[hl]\r?")
 PAGED = {"PAGER": "sed s/^/paged:/", "NO_COLOR": "1"}
 
@@ -27,7 +27,7 @@ def test_groups():
     assert (within(b"to:", b"to:a"), within(b"words", b"live"), within(b"heads", b"to:")) == (b"a", b"live", b"to:")
 
 
-# At a terminal: a line, and what is shown below it.
+# At a terminal: a line, and its output.
 SOME_TAGS = ("tag: (25)\n  00 2  02 2  04 2  06 1  08 1  10 1  12 1  14 1  16 1  18 1\n  01 2  03 2  05 1  07 1  09 1  11 1  13 1  15 1  17 1  19 1\n"
              "  and 5 more: `ls -a`\n")
 ALL_TAGS = ("tag: (25)\n  00 2  02 2  04 2  06 1  08 1  10 1  12 1  14 1  16 1  18 1  20 1  22 1  24 1\n"
@@ -90,7 +90,7 @@ def test_another_pager(at_terminal, pager, wanted):
 
 
 def test_the_pager_that_is_there(at_terminal, needs):
-    """`less` shows what fits at once, and waits where more is to come. Ctrl-C is for it alone."""
+    """`less` shows what fits at once, and otherwise waits. Ctrl-C is for it alone."""
     needs("less")
     make(limits=("64", "256", "64"), script=MANY)
     with at_terminal() as at:
@@ -109,7 +109,7 @@ def test_the_pager_that_is_there(at_terminal, needs):
 TEXTS = TAKEN + b"".join(b"add %b %d %b\n%b\n" % (name, len(data), words, data) for name, data, words in (
     (b"a.txt", b"Hello\nworld\nhello again", b"live"), (b"b.txt", b"say hello\r\nHELLO", b"music"), (b"bytes", b"hello\0\nhello\n", b"live"),
     (b"odd", b"hello \xff\x1b[2J\n", b"")))
-# A line, what is shown, and what is said.
+# A line, its output, and its message.
 GREPS = (
     ("a text", "grep hello", b"a.txt:3:hello again\nb.txt:1:say hello\r\nbytes: the text is in it, and it has a NUL byte\nodd:1:hello \xff\x1b[2J\n", ""),
     ("any letters", "grep -i HELLO music", b"b.txt:1:say hello\r\nb.txt:2:HELLO\n", ""),
@@ -147,7 +147,7 @@ def test_grep_at_a_terminal(at_terminal):
         at.types(b"exit\n").ends()
 
 
-# Lines that are refused as 1 and as 6, and the word that each sentence begins with.
+# Lines that are refused as 1 and as 6, and the word with which each sentence begins.
 ABOUT = (
     ("frob", "frob: there is no such command"), ("cat", "cat: usage"), ("cat gig album", "album: one word too many"), ("cat .", f".: no name of a file, which has {FORM}"),
     ("rename gig a/b", "a/b: no name"), ("mkdir", "mkdir: usage"), ("mkdir a b", "b: one word too many"), ("mkdir a:b:c", f"a:b:c: {NO_WORD}"),

@@ -1,4 +1,4 @@
-"""`tools/shell` at a terminal: colours, questions, Ctrl-C, lines of earlier days, and a person."""
+"""`tools/shell` at a terminal: colours, questions, Ctrl-C, the history of lines, and a person."""
 import os
 import re
 import signal
@@ -15,7 +15,7 @@ from support.waiting import LONG, children, rest, stop, until
 
 
 def test_terminals(at_terminal):
-    """Colours, questions, bytes that are no text, Ctrl-C and Ctrl-D, at a terminal without a person."""
+    """Colours, questions, bytes that are not text, Ctrl-C and Ctrl-D, at a terminal without a person."""
     make(limits=("64", "64", "64"), script=TAKEN + b"add raw 21\na\x1b]0;title\x07\tb\xff\xc3\xa4\r\n\x9b\x7f\n")
     for name, data in (("rest", b"x\n" * 9), ("plain", b"plain"), ("out", b"old")):
         written(name, data)
@@ -38,7 +38,7 @@ def test_terminals(at_terminal):
         taken = b"rest: there is a file of this name already"
         for answer, wanted in ((b"\n", taken), (b"no\n", taken), (b"\x04", taken), (b"\x03", taken), (b"y\n", b"rest: 5 bytes\r\n")):
             at.types(b"put plain rest\n").sees(b"write these bytes to it? [y/N] ")
-            # A signal that comes just before the shell waits for a key is found with the next key.
+            # A signal that comes just before the shell waits for a key is handled with the next key.
             rest(at.process)
             assert at.types(answer).sees(wanted) is not None, (f"put asks, and {answer} is the answer", at.shown[-300:])
             at.sees(b"> ")
@@ -79,14 +79,14 @@ def test_no_colours(at_terminal, more):
 
 
 def test_stops(at_terminal):
-    """Ctrl-C: a line that is typed, and one that is under way, with the program held in its middle."""
+    """Ctrl-C: for a line that is being typed, and for one that runs, with the program stopped in its middle."""
     make(limits=("1024", "64", "64"), script=TAKEN + b"".join(b"create n%03d live\n" % k for k in range(900)))
     with at_terminal() as at:
         at.sees(b"/\x1b[0m> ")
-        # More names than are shown, and the line goes on before what stands behind the cursor.
+        # More names than are shown, and the line goes on before the text after the cursor.
         at.types(b"cat n/\x1b[D\t\t").sees(b"cat n/")
         shown = at.sees(b"\r\nand 781 more\r\n") or b""
-        # Each has two blanks behind it on a line of 100 columns.
+        # Two blanks follow each on a line of 100 columns.
         rows = -(-120 // (100 // len("n000  ")))
         assert [int(name) for name in re.findall(rb"n(\d{3})", shown)] == sorted(range(120), key=lambda k: (k % rows, k)), (
             "names to choose from, in columns")
@@ -140,7 +140,7 @@ def test_a_script_is_stopped(program):
 
 
 def test_history(at_terminal):
-    """The lines of earlier days."""
+    """The history of lines."""
     make(script=TAKEN)
     path = "state/lisfs/shell_history"
     with at_terminal() as at:
@@ -151,7 +151,7 @@ def test_history(at_terminal):
     os.chmod(path, 0o644)
     with at_terminal() as at:
         at.sees(b"> ")
-        # Up twice: the last but one.
+        # Up twice: the last line but one.
         at.types(b"\x1b[A\x1b[A\n")
         assert at.sees(b"s files 4\r\n") is not None, ("and called back", at.shown)
         at.types(b"exit\n").ends()
@@ -182,7 +182,7 @@ def test_a_person(program, needs):
     needs("tmux")
     make(limits=("128", "512", "256"), script=library() + TAKEN + b"add title 9\n\x1b]2;BAD\x07\n")
     written("local.txt", b"local\n")
-    # A pane does not always know the status of what has ended.
+    # A pane does not always know the status of a process that has ended.
     with Person(f"trap : INT; '{SHELL}' image; echo $? >status") as person:
         def sees(name, text):
             assert person.sees(text), (f"a person: {name}", person.screen())

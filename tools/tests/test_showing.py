@@ -1,4 +1,4 @@
-"""`lisfs.showing`: what does a terminal no harm."""
+"""`lisfs.showing`: what is harmless to a terminal."""
 import io
 import os
 

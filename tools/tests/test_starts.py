@@ -1,11 +1,11 @@
-"""What the start of each tool imports: no module that takes a while to load and that only few runs need."""
+"""What the start of each tool imports: no module that is slow to load and that only few runs need."""
 import subprocess
 import sys
 
 import pytest
 from support import with_package
 
-# Modules that only some paths of a tool need, by the tool.
+# Modules that only some runs of a tool need, by tool.
 UNNEEDED = {
     "edit": ("dataclasses", "hashlib", "socket", "tempfile", "traceback", "lisfs.served"),
     "folder.bring": ("email", "tempfile", "traceback", "lisfs.served"),
@@ -19,7 +19,7 @@ UNNEEDED = {
 
 
 def shown_by(tool, code):
-    """What some code shows after a tool was imported by a new Python, which has other modules of its own at its start."""
+    """The output of some code after a new Python has imported a tool. That Python has other modules at its start."""
     if tool == "web.cli":
         pytest.importorskip("jinja2", reason="jinja2 is missing: apt-get install python3-jinja2")
     code = f"import sys\nbefore = set(sys.modules)\nimport lisfs.{tool}\nloaded = set(sys.modules) - before\n" + code
@@ -47,6 +47,6 @@ for name in sorted(loaded):
 
 
 def test_a_program():
-    """What a program says on standard error needs no temporary folder."""
+    """No temporary folder is needed for the standard error of a program."""
     code = "from lisfs.client import Program\nProgram(['true']).close()\nprint(*set(sys.modules) - before)"
     assert "tempfile" not in shown_by("client", code)

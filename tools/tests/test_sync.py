@@ -1,4 +1,4 @@
-"""`tools/sync`: folders into real images, again and again, small images, and what it refuses."""
+"""`tools/sync`: folders into real images, repeatedly, small images, and what it refuses."""
 import contextlib
 import fcntl
 import os
@@ -18,7 +18,7 @@ pytestmark = [pytest.mark.usefixtures("program"), pytest.mark.limits(*LIMITS)]
 
 
 def test_folder(image):
-    # What somebody has put in, in names that the folder would take, and with words of its heads.
+    # Files that somebody has added, under names that the folder would use, and with words of its heads.
     with session() as program:
         for word in (b"mine", b"in:", b"sync:"):
             program.mkdir(word)
@@ -70,7 +70,7 @@ def test_folder(image):
 
 
 def test_two_folders_of_one_name(image):
-    """Under the names that they get by themselves."""
+    """Under their default names."""
     written("top/a.txt", "one\n")
     written("else/top/a.txt", "other\n")
     for path in ("top", "else/top"):
@@ -80,7 +80,7 @@ def test_two_folders_of_one_name(image):
 
 
 def test_an_empty_folder(image):
-    """As where a disk is not mounted."""
+    """As if a disk is not mounted."""
     with session() as program:
         for word in (b"in:", b"sync:"):
             program.mkdir(word)
@@ -118,11 +118,11 @@ def test_odd_files(image):
     assert sync("--as", "t", "image", "top")[:2] == (
         1, ["sync:t: nothing changed, 1 as they were", "not taken: 3 no plain file, 2 too large"]), "a file that has grown too large"
     assert bytes_of("f") == b"x", "stays as it was"
-    # What becomes a link is gone.
+    # A file that becomes a link is gone.
     os.remove("top/largest")
     os.symlink("f", "top/largest")
     assert sync("--as", "t", "image", "top")[1][0] == "sync:t: 1 gone, 0 as they were", "a file that becomes a link"
-    # The image itself may lie in the folder.
+    # The image itself may be in the folder.
     os.rename("image", "top/image")
     assert sync("--as", "t", "top/image", "top")[1] == [
         "sync:t: nothing changed, 0 as they were", "not taken: 4 no plain file, 2 too large"], "the image itself"
@@ -130,7 +130,7 @@ def test_odd_files(image):
 
 @pytest.fixture
 def closed():
-    """An image of three files, of which then one is gone and two can't be read by others than root."""
+    """An image of three files, of which then one is gone and two can be read only by root."""
     make("shut")
     os.chmod("shut", 0o666)
     written("closed/in/f", "x")
@@ -230,7 +230,7 @@ def test_no_room_for_words(hundred):
     assert status == 1 and out[0] == "sync:m: nothing changed, 100 as they were" and "no room for more words" in out[1], (
         "again", (status, out, error))
     assert dump("words") == before, "changes nothing at all"
-    # When there is room again the words come.
+    # If there is room again the words come.
     with session("words") as program:
         for name in sorted(now)[:50]:
             program.rm(name.encode())
@@ -323,7 +323,7 @@ def test_terminal(image, program):
                           env={**os.environ, "LISFS_PROGRAM": program}) as child:
         os.close(theirs)
         said = b""
-        # A terminal whose other end is closed tells an error.
+        # A terminal whose other end is closed returns an error.
         with contextlib.suppress(OSError):
             while data := os.read(ours, 65_536):
                 said += data

@@ -67,7 +67,7 @@ def test_nine_cases():
 
 
 def test_mixed_cases():
-    """One change in the folder, and another one in the image."""
+    """One change in the folder, and a different one in the image."""
     bring_in("edit-gone", "gone-edit", "name-edit", "edit-name", "name-gone", "gone-name", "alike", "back")
     for name in ("edit-gone", "edit-name"):
         written(f"top/{name}", "the folder's\n")
@@ -119,7 +119,7 @@ def test_settled_conflicts():
     status, out, _ = sync("--as", "t", "image", "top")
     assert (status, out[2:3]) == (1, ["conflict: both: top/both: changed in the folder and in the image"]), "until the folder changes again"
     assert contents()["both"] == ("the image's\n", True), "and stays all the same"
-    # A copy of the image has the memory of the state that it is in.
+    # A copy of the image has the memory of its own state.
     assert sync("--as", "t", "--theirs", "theirs", "top") == (
         0, ["sync:t: 2 changed, 1 gone, 0 as they were", "1 file changed in the image: left as the image has it"], ""), "by what the folder has"
     assert contents("theirs") == {
@@ -141,7 +141,7 @@ def in_conflict():
 
 
 def edited():
-    """The names of the files of the image, by whose bytes they have."""
+    """The names of the files of the image, by the owner of their bytes."""
     return {side: {name for name, (data, _) in contents().items() if data == f"the {side}'s\n"} for side in ("image", "folder")}
 
 
@@ -164,7 +164,7 @@ def test_one_conflict():
 
 
 def test_all_but_one():
-    """One that is named is settled as said there, and the others as said for all; a dry run says it too."""
+    """A named conflict is settled as its option says, and the others as the option for all says; a dry run says it too."""
     in_conflict()
     before = dump()
     words = "--as", "t", "--theirs", "--ours=top/below/one", "image", "top"
@@ -174,7 +174,7 @@ def test_all_but_one():
 
 
 def test_a_path_with_that_of_the_folder():
-    """As a conflict is shown. One within the folder comes first."""
+    """As a conflict is shown. A path within the folder comes first."""
     in_conflict()
     assert sync("--as", "t", "--theirs=top/both", "image", "top")[0] == 1
     assert edited()["folder"] == {"top+both"}, "the folder has such a path"
@@ -238,8 +238,8 @@ def test_verbose():
 
 
 def test_found_again():
-    """Of files with the same bytes those of the same name are found again first, and empty ones by their names alone; a mail without a
-    Message-ID is found by its bytes too."""
+    """Among files with the same bytes those of the same name are found again first, and empty ones only by their names; a mail without a Message-ID
+    is found by its bytes too."""
     make()
     maildir("mail", ".Old")
     written("mail/cur/1:2,", mail("Without id", number=None))
@@ -266,7 +266,7 @@ def test_found_again():
 
 
 def test_not_moved():
-    """A file that was in the folder before, and for which there was no room, has not moved there when another one with its bytes goes."""
+    """A file that was in the folder before, and for which there was no room, does not count as moved when another one with its bytes goes."""
     make(limits=("64", "64", "2"))
     for name, data in (("another", "other\n"), ("first", "the same\n"), ("second", "the same\n")):
         os.utime(written(f"top/{name}", data), (1, 1))
@@ -284,7 +284,7 @@ def test_not_moved():
 
 
 def test_without_memory():
-    """What was brought in without a memory, as by an older `tools/sync`, is neither lost nor written over."""
+    """What was brought in without a memory, as by an older `tools/sync`, is neither lost nor overwritten."""
     bring_in("same", "other", "gone")
     written("top/other", "the folder's\n")
     os.remove("top/gone")
@@ -305,7 +305,7 @@ def test_without_memory():
 
 
 def test_memories():
-    """A memory is that of one state of an image, wherever that lies, and what is no memory is not believed."""
+    """A memory belongs to one state of an image, wherever that is, and what is no memory is not believed."""
     bring_in("a", "b")
     shutil.copy("image", "backup")
     word, = memory_words()
@@ -318,7 +318,7 @@ def test_memories():
     os.remove("image")
     make()
     assert sync("--as", "t", "image", "top")[:2] == (0, ["sync:t: 2 new, 0 as they were"]), "an image that was made again"
-    # A memory that somebody changed, or that is not there.
+    # A memory that somebody changed, or that is missing.
     word, = memory_words()
     name, = (name for name in os.listdir(os.path.join(os.environ["XDG_STATE_HOME"], "lisfs")) if word[-20:].decode() in name)
     path = os.path.join(os.environ["XDG_STATE_HOME"], "lisfs", name)
@@ -328,7 +328,7 @@ def test_memories():
     written("top/a", "newest\n")
     status, out, _ = sync("--as", "t", "image", "top")
     assert (status, out[2:3]) == (1, ["conflict: a: top/a: not the same in the folder and in the image"]), "a changed memory is none"
-    # Where it can't be kept.
+    # A folder in which it can't be kept.
     written("file")
     written("top/c", "more\n")
     status, out, _ = sync("--as", "t", "image", "top", XDG_STATE_HOME=os.path.abspath("file"))
@@ -338,7 +338,7 @@ def test_memories():
 
 
 def test_unknown_conflict():
-    """A conflict of which nothing is known gets its words alone, and keeps its bytes."""
+    """A conflict of which nothing is known gets only its words, and keeps its bytes."""
     bring_in("a")
     os.mkdir("top/sub")
     os.rename("top/a", "top/sub/a")
@@ -355,7 +355,7 @@ def test_unknown_conflict():
 
 
 def test_long_names():
-    """Folders whose names begin alike have memories of their own."""
+    """Folders whose names have a common prefix have separate memories."""
     make()
     for folder in ("x", "y"):
         written(f"{folder}/family-photos-and-letters-of-the-year/a", f"{folder}\n")
@@ -381,7 +381,7 @@ def test_ours_again():
 
 
 def test_mails_alike():
-    """Two mails with one Message-ID keep each its own words when one of them goes."""
+    """Two mails with one Message-ID each keep their own words when one of them goes."""
     make()
     for number, text in ((1, "One.\n"), (2, "Two.\n")):
         written(f"box/cur/{number}", mail(body=text))
@@ -394,7 +394,7 @@ def test_mails_alike():
             program.mkdir(word)
         for name, body in bodies.items():
             program.mv(name.encode(), b"one" if "One." in body else b"two")
-    # The names of such mails go by their digests: without the lowest the other one has another name.
+    # The names of such mails are ordered by their digests: without the lowest the other one has another name.
     lowest = min((1, 2), key=lambda number: hashlib.sha256(mail(body="One.\n" if number == 1 else "Two.\n").encode()).digest())
     os.remove(f"box/cur/{lowest}")
     assert sync("--as", "m", "image", "box")[0] == 0, "one is gone"
@@ -421,7 +421,7 @@ def test_plain_words():
 
 
 def test_edited_and_renamed():
-    """In the image, between two runs: the file is found again by what it has, and is one that was edited and renamed."""
+    """In the image, between two runs: the file is found again by its contents, and counts as edited and renamed."""
     bring_in("a.txt", "b.c", "sub/c.txt", "d.txt", "e.txt")
     with session() as program:
         for name, other in ((b"a.txt", b"mine.txt"), (b"b.c", b"mine.c"), (b"sub+c.txt", b"another.txt")):

@@ -37,7 +37,7 @@ def test_mail_folders(image):
     before = dump()
     assert sync("--as", "m", "image", "mail")[1][0] == "sync:m: nothing changed, 7 as they were", "the second run"
     assert dump() == before, "changes nothing at all"
-    # Flags change, a mail is looked at, and one moves to another folder.
+    # Flags change, a mail is read, and one moves to another folder.
     os.rename("mail/cur/1.host:2,S", "mail/cur/1.host:2,FS")
     os.rename("mail/new/2.host", "mail/cur/2.host:2,S")
     assert sync("--as", "m", "image", "mail")[1][0] == "sync:m: nothing changed, 7 as they were", "flags"
@@ -106,7 +106,7 @@ def test_words_left_out(image):
 
 
 def test_long_words():
-    """So many that they don't fit a line."""
+    """Too many to fit a line."""
     deep = "/".join(f"{letter * 60}" for letter in "abcdefghijklmnop")
     written(f"deep/{deep}/f", "x")
     make("new")
@@ -123,7 +123,7 @@ def test_cut_words():
     written("mail/cur/1:2,", mail(" ".join(f"w{number:03}" for number in range(100)), number=1))
     status, out, _ = sync("--as", "m", "--verbose", "image", "mail")
     name, = held()
-    # The suffix, the size, the sender, the one who gets it, and the words of the Subject.
+    # The suffix, the size, the sender, the recipient, and the words of the Subject.
     told = "at least 56 words of 1 file cut: a file has at most 48 on its own, so a search by from:, to:, subject:, includes: or defines: can miss it"
     assert (status, told in out, f"cut: {name}: 48 of at least 104 words that it has on its own" in out) == (0, True, True), "a mail"
     assert told in sync("--as", "m", "image", "mail")[1], "again, when it is not read"
@@ -133,7 +133,7 @@ def test_cut_words():
     written("top/many.txt", "".join(f"int f{number}(int a) {{ }}\n" for number in range(60)))
     for run in ("a source", "a source again"):
         assert [line for line in sync("--as", "t", "image", "top")[1] if "cut" in line] == [told.replace("56 words", "14 words")], run
-    # 128 words at most, with all that others entail.
+    # At most 128 words, with all that others entail.
     with session() as program:
         program.mkdir(b"wide")
         for number in range(120):
@@ -171,7 +171,7 @@ def test_tags(image, mutagen):
     wanted = {"sync:t", "in:Band", "artist:die-aerzte", "album:geraeusch-2", "genre:rock", "year:2003"}
     assert held()["Band+one.wav"] == wanted, "its words"
     assert sync("--as", "t", "image", "music")[1][0] == "sync:t: nothing changed, 3 as they were", "the second run"
-    # Where mutagen is away later, words of tags stay.
+    # If mutagen is missing later, words of tags stay.
     written("hidden/mutagen.py", "raise ImportError\n")
     status, out, error = sync("--as", "t", "image", "music", PYTHONPATH=os.path.abspath("hidden"))
     assert (status, out[0]) == (0, "sync:t: nothing changed, 3 as they were"), "without mutagen later"

@@ -21,7 +21,7 @@ def records(number):
 
 
 def is_known(word, image="elsewhere"):
-    """Whether a memory can be read that an image names by this word."""
+    """Whether a memory with this word of an image can be read."""
     return Memory(MARKER, image).read({word}) is not None
 
 
@@ -30,7 +30,7 @@ def state():
 
 
 def aged(days):
-    """All that is kept was used so many days ago, and no later."""
+    """Makes all that is kept N days old."""
     for name in os.listdir(state()):
         os.utime(os.path.join(state(), name), (time.time() - days * 86_400,) * 2)
 
@@ -45,7 +45,7 @@ def test_each_image_keeps_its_memory():
 
 
 def test_an_image_keeps_its_last_memories():
-    """Copies and backups of it name them."""
+    """Copies and backups of it name these."""
     first = Memory(MARKER, written("first")).write(records(1_000))
     words = [Memory(MARKER, written("image")).write(records(number)) for number in range(KEPT + 5)]
     assert [is_known(word) for word in words] == [False] * 5 + [True] * KEPT
@@ -79,7 +79,7 @@ def test_a_memory_of_an_image_that_is_gone():
 
 
 def test_a_memory_of_before():
-    """One that no list names, as an older `tools/sync` wrote it, is kept for a year."""
+    """A memory that no list names, as an older `tools/sync` wrote it, is kept for a year."""
     memory = Memory(MARKER, written("image"))
     word = memory.write(records(0))
     os.remove(memory.list)
@@ -108,7 +108,7 @@ def test_a_run_that_was_stopped():
 
 @pytest.mark.limits(*LIMITS)
 def test_runs(image):
-    """Runs over other images take nothing from one, and each run leaves one memory more."""
+    """Runs over other images remove nothing of one, and each run leaves one more memory."""
     for number in range(3):
         written("top/f", f"{number}\n")
         make(f"image{number}")
@@ -123,7 +123,7 @@ def test_runs(image):
 
 @pytest.mark.limits(*LIMITS)
 def test_a_dry_run_changes_no_byte(image):
-    """Although opening the image would: its journal has records that are not at their place yet."""
+    """Although opening the image would: its journal has records that are not yet written to their place."""
     written("top/f", "x\n")
     sync("--as", "t", image, "top")
     with session() as program:

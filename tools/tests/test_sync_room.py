@@ -51,7 +51,7 @@ def test_newest():
 
 
 def test_older_files_that_somebody_changed():
-    """They stay, whatever is wanted of the folder, and are brought up to date as others are."""
+    """They stay, whatever limit is given, and are updated as others are."""
     make()
     for name in ("word", "edited", "name", "plain", "both"):
         dated(f"top/{name}", 1)
@@ -71,12 +71,12 @@ def test_older_files_that_somebody_changed():
     assert {name: "mine" in words for name, words in held().items()} == {
         "word": True, "both": True, "edited": False, "other": False, "new": False}, "what is there"
     assert bytes_of("both") == b"the folder's\n", "what changed in the folder comes in"
-    # What was removed for its age was not removed by somebody.
+    # A file that was removed for its age does not count as removed by somebody.
     assert sync("--as", "t", "image", "top")[1][0] == "sync:t: 1 new, 4 as they were", "it comes again"
 
 
 def test_older_files_without_memory():
-    """What is alike on both sides can go too, and what is not is a conflict."""
+    """What is the same on both sides can go too, and what is not is a conflict."""
     make()
     for name in ("same", "other", "new"):
         dated(f"top/{name}", 9 if name == "new" else 1)
@@ -101,7 +101,7 @@ def test_since():
         0, ["sync:m: 3 new, 0 as they were", "2 older files left out by --since or --newest"]), "since a year"
     assert sorted(re.sub("-[^-]*$", "", name) for name in held()) == ["new.txt", "subject-number1", "subject-number2"], "which they are"
     assert sync("--as", "m", "--since", "2024-01-03", "image", "box")[1][0] == "sync:m: 1 removed as older, 2 as they were", "since a day"
-    # A Date in the future is none.
+    # A Date in the future is ignored.
     dated("box/mail/cur/9:2,", 5, sent(9).replace(" 2024", " 2098"))
     assert sync("--as", "m", "--since", "2024", "image", "box")[1][1] == "3 older files left out by --since or --newest", "a date to come"
 
@@ -133,7 +133,7 @@ def test_no_room_for_files():
     for number in range(100, 110):
         written(f"mail/cur/{number}:2,", sent(number))
     assert sync("--as", "m", "image", "mail")[1][0] == "sync:m: nothing changed, 64 as they were", "newer ones have no room"
-    # What is told helps.
+    # The advice helps.
     assert sync("--as", "m", "--newest", "64", "image", "mail") == (
         0, ["sync:m: 10 new, 10 removed as older, 54 as they were", "46 older files left out by --since or --newest"], ""), "and with it they have"
 
@@ -154,14 +154,14 @@ def test_no_room_for_words():
     numbers = {int(re.search("one([0-9]+)", name)[1]): words for name, words in held().items() if name.endswith(".eml")}
     own = [len([word for word in numbers.get(number, ()) if word.startswith("about:")]) for number in range(99, -1, -1)]
     assert own[:whole] == [3] * whole and own[whole] < 3 and max(own[whole + 1:]) <= 1, ("the newest have all words", whole, own)
-    # What is told helps: without --lean, and with it.
+    # The advice helps: without --lean, and with it.
     assert sync("--as", "m", "--newest", str(whole), "image", "mail")[0] == 0, "a few of them"
-    # Words that files have on their own by now are not counted again.
+    # Automatic words that are already known are not counted again.
     assert sync("--as", "m", "--newest", str(whole + 5), "image", "mail")[1][0] == f"sync:m: 5 new, {whole} as they were", "some more"
     assert known() == 512 - 25, "each word that there is room for"
     make("lean", ("256", "512", "512"))
     assert sync("--as", "m", "--lean", "lean", "mail") == (0, ["sync:m: 100 new, 0 as they were"], ""), "all of them"
-    # And somebody can use what is kept free.
+    # And a person can use what is kept free.
     make("mine", ("256", "512", "512"))
     sync("--as", "m", "mine", "mail")
     with session("mine") as program:
@@ -183,7 +183,7 @@ def test_reserve():
 
 
 def test_words_of_somebody_else():
-    """Words that the reserve is for are known words too. So no more become known when they are used, and the folder's word has room."""
+    """Words that the reserve is for are known words too. So no more words become known when they are used, and the folder's word has room."""
     make("image", ("64", "64", "64"))
     with session() as program:
         for number in range(58):
@@ -197,7 +197,7 @@ def test_words_of_somebody_else():
 
 
 def test_lean_sources():
-    """Their names are such that the program derives no words of their bytes."""
+    """From their names the program derives no words of their bytes."""
     for name in ("a.c", "sub/a.h", "notes.eml", "long-" * 11 + "name.c", "plain.txt", "a.c_"):
         written(f"top/{name}", "int main(void) { }\n" if name != "notes.eml" else mail())
     make()
@@ -210,7 +210,7 @@ def test_lean_sources():
     assert {"ext:c_", "ext:h_", "ext:eml_", "ext:txt"} <= words and not [word for word in words if word.startswith(("defines:", "includes:", "from:"))]
     for words in ([], ["--lean"]):
         assert sync("--as", "t", *words, "image", "top")[1] == ["sync:t: nothing changed, 6 as they were"], "they stay so"
-    # One that moves stays lean, and keeps the word that it was given.
+    # A lean file that moves stays lean, and keeps the word that it was given.
     with session() as program:
         program.mkdir(b"mine")
         program.mv(b"sub+a.h_", b"mine")
@@ -221,7 +221,7 @@ def test_lean_sources():
 
 
 def test_sources_without_room():
-    """A source for whose words there is no room comes in with a lean name, and the newest have theirs."""
+    """A source for whose words there is no room comes in with a lean name, and the newest have their words."""
     make("image", ("64", "64", "64"))
     for number in range(4):
         dated(f"top/f{number}.c", number + 1, "".join(f"int f{number}{letter}(void) {{ }}\n" for letter in "abcdefghijklmnopqr"))
@@ -233,7 +233,7 @@ def test_sources_without_room():
 
 
 def test_room_and_bytes():
-    """Where blocks are full smaller files may come in after a larger one that has no room."""
+    """If blocks are full, smaller files may come in after a larger one that has no room."""
     make("image", ("64", "64", "4"))
     for number, size in ((4, 8_192), (3, 12_288), (2, 4_096), (1, 4_096), (0, 4_096)):
         dated(f"top/f{number}", number + 1, bytes(size))

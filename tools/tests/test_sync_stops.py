@@ -16,8 +16,8 @@ from support.waiting import LONG, until
 pytestmark = pytest.mark.usefixtures("program")
 
 
-# A program in front of the real one. It says which words it has, and notes how it is called. Where it is told so, it takes so many bytes of
-# its input, and then kills who gave it, or is killed, or ends, or takes nothing more until the end of the input.
+# A program in front of the real one. It says which words it has, and notes how it is called. If it is told so, it reads a number of bytes of its
+# input, and then kills its caller, or is killed, or ends, or reads nothing more until the end of the input.
 FRONT = """#!{python}
 import os, signal, subprocess, sys, time
 with open({notes!r}, "a") as notes:
@@ -90,7 +90,7 @@ def text_of(number, word):
 
 @contextlib.contextmanager
 def brought():
-    """A folder of its own with mails, and an image `whole` of them by a run that nothing stopped."""
+    """A separate folder with mails, and an image `whole` of them by a run that nothing stopped."""
     top = tempfile.mkdtemp()
     with contextlib.chdir(top):
         maildir("mail", ".Old")
@@ -106,14 +106,14 @@ def brought():
 
 @pytest.fixture(scope="module")
 def first(program):
-    """Where a folder of mails is, and the dump of its image."""
+    """The path of a folder of mails, and the dump of its image."""
     with brought() as top:
         yield top, dump(os.path.join(top, "whole"))
 
 
 @pytest.fixture(scope="module")
 def later(program):
-    """The same after changes and a second run. The image `base` is that of before."""
+    """The same after changes and a second run. The image `base` is the earlier one."""
     with brought() as top:
         with contextlib.chdir(top):
             shutil.copy("whole", "base")
@@ -130,7 +130,7 @@ def later(program):
 
 @pytest.mark.parametrize("does, limit", (("kill", 900), ("kill", 30_000), ("die", 40_000), ("stop", 36)))
 def test_interrupted(first, does, limit):
-    """It is stopped after so many bytes, and the next run goes on."""
+    """It is stopped after a number of bytes, and the next run goes on."""
     top, wanted = first
     os.chdir(top)
     make("image")
@@ -144,7 +144,7 @@ def test_interrupted(first, does, limit):
 
 @pytest.mark.parametrize("limit", (100, 2_000, 15_000))
 def test_interrupted_later(later, limit):
-    """It is killed after so many bytes of a second run."""
+    """It is killed after a number of bytes of a second run."""
     top, wanted = later
     os.chdir(top)
     shutil.copy("base", "image")
@@ -171,7 +171,7 @@ def test_signals(number):
     make("whole")
     sync("--as", "m", "whole", "mail")
     make()
-    # It waits for replies, since the program takes no more of its input.
+    # It waits for replies, since the program reads no more of its input.
     with subprocess.Popen([sys.executable, SYNC, "--as", "m", "image", "mail"], stdin=subprocess.DEVNULL, stdout=subprocess.PIPE,
                           stderr=subprocess.PIPE, env={**os.environ, "LISFS_PROGRAM": front(does="wait", limit=20_000)}) as child:
         assert until(lambda: os.path.exists("here")), "it is under way"

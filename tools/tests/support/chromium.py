@@ -1,4 +1,4 @@
-"""A headless Chromium, by Selenium: pages are opened, clicked and typed at as a person does. For tests and pictures alone."""
+"""A headless Chromium, by Selenium: pages are opened, clicked and typed at as a person does. Only for tests and pictures."""
 from __future__ import annotations
 
 import json
@@ -24,10 +24,10 @@ except ModuleNotFoundError:
     HAS_SELENIUM = False
 
 BROWSERS, DRIVERS = ("chromium", "chromium-browser", "google-chrome"), ("chromedriver",)
-# No sandbox, since tests may run as root, and nothing of its own from elsewhere.
+# No sandbox, since tests may run as root, and no requests of the browser's own.
 WORDS = ("--headless=new", "--no-sandbox", "--disable-gpu", "--disable-dev-shm-usage", "--no-first-run", "--disable-background-networking",
          "--disable-component-update", "--disable-sync", "--disable-extensions", "--hide-scrollbars")
-# The first element that a chooser finds, and that has this text, or this label, once the page is there whole and it can be seen.
+# The first visible element that matches a selector, and that has this text, or this label, once the page is complete.
 SPOT = """
     const found = [...document.querySelectorAll(arguments[0])].find((one) => arguments[1] === null || one.textContent.trim() === arguments[1]
         || one.getAttribute("aria-label") === arguments[1]);
@@ -35,7 +35,7 @@ SPOT = """
     const box = found.getBoundingClientRect();
     return box.width && box.height ? found : null;
 """
-# What the browser says of a page whose script or policy it complains of.
+# The events by which the browser complains about a page's script or policy.
 COMPLAINTS = ("Log.entryAdded", "Runtime.exceptionThrown", "Runtime.consoleAPICalled", "Page.javascriptDialogOpening")
 
 
@@ -77,7 +77,7 @@ class Chromium:
 
     def __exit__(self, *_: object) -> None:
         self.driver.quit()
-        # What it has started ends after it, and may still write.
+        # Processes that it has started end after it, and may still write.
         until(self._is_removed)
 
     def _is_removed(self) -> bool:
@@ -85,26 +85,26 @@ class Chromium:
         return not os.path.exists(self.folder)
 
     def ask(self, call: str, **given: Any) -> Any:
-        """The result of a call of the browser's own protocol."""
+        """The result of a command of the browser's own protocol."""
         return self.driver.execute_cdp_cmd(call, given)
 
     def told(self) -> list[dict[str, Any]]:
-        """What the browser has told by itself since it was last asked: of requests, and of what it complains of."""
+        """The browser's events since the last call: requests, and complaints."""
         return [json.loads(row["message"])["message"] for row in self.driver.get_log("performance")]
 
     def complaints(self) -> list[dict[str, Any]]:
-        """What it complains of in its console since it was last asked."""
+        """The complaints in its console since the last call."""
         return list(self.driver.get_log("browser"))
 
     def value(self, script: str) -> Any:
-        """What a script in the page gives."""
+        """The result of a script in the page."""
         return self.driver.execute_script(f"return {script}")
 
     def open(self, address: str) -> None:
         self.driver.get(address)
 
     def wait_for(self, script: str) -> Any:
-        """Waits until a script gives something. A page that is just coming gives nothing yet."""
+        """Waits until a script returns something. A page that is loading returns nothing yet."""
         return self._wait(lambda: self.value(script), script)
 
     def _wait(self, is_so: Callable[[], Any], what: str) -> Any:
@@ -119,12 +119,12 @@ class Chromium:
         return got
 
     def element(self, chooser: str, text: str | None = None) -> WebElement:
-        """The first element that a chooser finds, and that has this text, or this label, once it is there and can be seen."""
+        """The first element that matches a selector, and that has this text, or this label, once it exists and is visible."""
         found: WebElement = self._wait(lambda: self.driver.execute_script(SPOT, chooser, text), f"{chooser} {text}")
         return found
 
     def _lead(self, act: Callable[[], None], leads: bool) -> None:
-        """Does what leads to the next page, and waits for that."""
+        """Runs what leads to the next page, and waits for that."""
         if leads:
             self.value("window.isOld = true")
         act()
@@ -132,7 +132,7 @@ class Chromium:
             self.wait_for("!window.isOld && document.readyState == 'complete'")
 
     def click(self, chooser: str, text: str | None = None, leads: bool = True) -> None:
-        """Clicks there with the mouse, and waits for the next page where it leads to one."""
+        """Clicks there with the mouse, and waits for the next page if it leads to one."""
         self._lead(self.element(chooser, text).click, leads)
 
     def type(self, text: str) -> None:
@@ -148,7 +148,7 @@ class Chromium:
         self.driver.find_element(By.CSS_SELECTOR, chooser).send_keys(path)
 
     def look(self, width: int, height: int, is_dark: bool = False, is_phone: bool = False) -> None:
-        """From now on the page has this size, and the system this wish."""
+        """Sets the size of the page, and the colour scheme that the system prefers."""
         self.ask("Emulation.setDeviceMetricsOverride", width=width, height=height, deviceScaleFactor=1, mobile=is_phone)
         self.ask("Emulation.setEmulatedMedia", features=[{"name": "prefers-color-scheme", "value": "dark" if is_dark else "light"}])
 

@@ -1,7 +1,7 @@
-"""How much processor time a call takes at most, on any machine. For tests alone.
+"""How much processor time a call takes at most, on any machine. Only for tests.
 
-A bound is in seconds of one machine. A yardstick is measured beside each call. If it shows that this machine is slower, the bound is longer by
-the same factor: so no verdict counts on how quick a machine is, or on what else it has to do.
+A bound is in seconds of one machine. A yardstick is measured along with each call. If it shows that this machine is slower, the bound is longer by
+the same factor: so no result depends on how fast a machine is, or on its other work.
 """
 import os
 import re
@@ -12,7 +12,7 @@ from typing import NamedTuple, TypeVar
 from support.waiting import fields_of
 
 T = TypeVar("T")
-# How many seconds of processor the yardstick takes on that machine.
+# How many seconds of processor time the yardstick takes on that machine.
 YARD = 0.0100
 WORD = re.compile(r"[a-z]+([0-9]*)")
 
@@ -28,12 +28,12 @@ def yardstick() -> int:
 
 
 def taken_by(*processes: int) -> float:
-    """How many seconds of processor these processes have taken so far."""
+    """How many seconds of processor time these processes have taken so far."""
     return sum(int(ticks) for process in processes for ticks in fields_of(process)[11:13]) / os.sysconf("SC_CLK_TCK")
 
 
 def spent_by(call: Callable[[], T], clock: Callable[[], float] = time.process_time) -> tuple[T, float]:
-    """What a call gives, and how many seconds of processor it took."""
+    """The result of a call, and how many seconds of processor time it took."""
     begun = clock()
     given = call()
     return given, clock() - begun
@@ -47,7 +47,7 @@ class Try(NamedTuple):
 
 
 def bounded(call: Callable[[], T], most: float, clock: Callable[[], float] = time.process_time, tries: int = 3) -> tuple[T, bool, list[Try]]:
-    """What a call gives, whether it took at most so many seconds, and each try. Other work may make one try longer, and not all of them."""
+    """The result of a call, whether it took at most this many seconds, and each try. Other work may slow one try, but not all of them."""
     told: list[Try] = []
     for _ in range(tries):
         before = spent_by(yardstick)[1]

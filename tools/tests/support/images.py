@@ -1,4 +1,4 @@
-"""Images for tests, files beside them, and what an image holds. For tests alone."""
+"""Images for tests, files beside them, and what an image holds. Only for tests."""
 import os
 import subprocess
 from collections.abc import Sequence
@@ -10,7 +10,7 @@ SMALL = ("64", "64", "8")
 
 
 def make(image: str = "image", limits: Sequence[str] = SMALL, script: bytes = b"") -> str:
-    """Makes an image on which these lines were run. Its name."""
+    """Makes an image on which these lines ran. Returns its name."""
     Program([PROGRAM, "make", image, *limits]).close()
     if script:
         subprocess.run([PROGRAM, "run", image], input=script, stdout=subprocess.DEVNULL, timeout=LONG, check=True)
@@ -23,7 +23,7 @@ def session(image: str = "image") -> Program:
 
 
 def usage(program: str, *words: str) -> bytes:
-    """What a program says to wrong words: those that it has."""
+    """What a program says about wrong words: the words that it has."""
     return subprocess.run([program, *words], stdin=subprocess.DEVNULL, capture_output=True, check=False).stderr
 
 
@@ -39,7 +39,7 @@ def bytes_of(name: str, image: str = "image") -> bytes:
 
 
 def written(path: str, data: bytes | str = b"", mode: int | None = None) -> str:
-    """Writes a file, in a folder that is made if it isn't there. Its path."""
+    """Writes a file, in a folder that is made if necessary. Returns its path."""
     os.makedirs(os.path.dirname(os.path.abspath(path)), exist_ok=True)
     with open(path, "wb") as file:
         file.write(data if isinstance(data, bytes) else data.encode())

@@ -1,6 +1,6 @@
-"""Inputs of sessions, made by chance, and in what the client and the program differ over one. For tests alone.
+"""Random inputs of sessions, and how the client and the program differ for one. Only for tests.
 
-An input shows in its replies where it is cut: `cat` shows bytes, `ls` names, and whatever is no command is refused.
+The replies to an input show where it is cut: `cat` shows bytes, `ls` names, and what is no command is refused.
 """
 import itertools
 import random
@@ -14,31 +14,31 @@ import sessions
 from lisfs.client import PROGRAM, ROOM_LINE, Ended, Item, Items, NotAReply, Program, Replies, shown_by, words_of
 from lisfs.constants import MAX_LINE, MAX_PAYLOAD
 
-# What came instead of each command: its reply, or at the end what was no reply.
+# What was received for each command: its reply, or at the end what was no reply.
 Got: TypeAlias = list[bytes | NotAReply]
 NAMES, WORDS = (b"a", b"b", b"c.txt"), (b"w", b"v", b"y:1")
 COMMANDS = (b"ls", b"pwd", b"cat N", b"cat N", b"props N", b"rm N", b"create N W", b"cd W", b"cd /", b"cd ..", b"mkdir W", b"rename N N", b"stat",
             b"frob", b"add", b"write N", b"ok", b"@1 ls", b"no 01 bad line", b"\0", b"\xff\xfe", b"")
-# Lines that a payload of S bytes follows, also where the line is refused; and such as it does not follow.
+# Lines that a payload of S bytes follows, even if the line is refused; and lines that no payload follows.
 WITH_PAYLOAD = (b"add N S W", b"add N S W", b"add N S", b"write N S", b"write N S W", b"add . S", b"write N/ S", b"add N S" + b" w v" * 9)
 WITHOUT = (b"Add N S", b"rm N S", b"add S N", b"add  S", b"\0add N S", b"add\0 N S", b"add\r N S", b"add\x0b N S", b"xadd N S")
-# What no count is, of a count S.
+# Texts that are no count, made from a count S.
 NO_COUNTS = (b"S" + b"0" * 12, b"0" * 13, b"-S", b"+S", b"Sx", b"0xS", b"S.", b"\0S", b"S\0", b"\xffS", b"S,0", b"1e1")
-# Behind a payload; the first of them alone is right.
+# What may follow a payload; only the first is right.
 BEHIND = (b"\n",) * 9 + (b"\r\n", b"\r\r\n", b"x\n", b" \n", b"ls", b"wrong\0end\r\n", b"y" * 1_100 + b"\n")
 SIZES = (0, 0, 1, 2, 3, 7, 40, 300, 5_000)
 LARGE = (65_536, 65_537, MAX_PAYLOAD, MAX_PAYLOAD + 1, MAX_PAYLOAD + 2, MAX_PAYLOAD + 70_000)
 
 
 def filled(chance: random.Random, form: bytes, said: bytes = b"") -> bytes:
-    """A form with a name for each `N`, a word for each `W`, and this in place of `S`."""
+    """A form with a name for each `N`, a word for each `W`, and this instead of `S`."""
     form = re.sub(rb"\bN\b", lambda _: chance.choice(NAMES), form)
     form = re.sub(rb"\bW\b", lambda _: chance.choice(WORDS), form)
     return form.replace(b"S", said)
 
 
 def spaced(chance: random.Random, line: bytes) -> bytes:
-    """The same words with other blanks between and around them, and with CRs at the end, of which one is no part of the line."""
+    """The same words with other blanks between and around them, and with CRs at the end, one of which is not part of the line."""
     if chance.random() < 0.3:
         between = chance.choice((b"\t", b"  ", b" \t ", b"\t\t"))
         line = chance.choice((b"", b" ", b"\t")) + line.replace(b" ", between) + chance.choice((b"", b" ", b"\t"))
@@ -46,7 +46,7 @@ def spaced(chance: random.Random, line: bytes) -> bytes:
 
 
 def lengthened(chance: random.Random, line: bytes) -> bytes:
-    """A line of about as many bytes as it may have, by blanks or by a word, and with a CR or without one."""
+    """A line of about as many bytes as allowed, made longer by blanks or by a word, and with a CR or without one."""
     size = chance.choice((MAX_LINE, ROOM_LINE)) + chance.randrange(-2, 4)
     end = chance.choice((b"", b"\r", b"\r\r", b" x"))
     fill = chance.choice((b" ", b"\t", b" x", b" w", b"\0"))
@@ -54,13 +54,13 @@ def lengthened(chance: random.Random, line: bytes) -> bytes:
 
 
 def random_content(chance: random.Random, size: int) -> bytes:
-    """So many bytes, some of which look like lines of a session or of a reply."""
+    """Random bytes, some of which look like lines of a session or of a reply."""
     pieces = chance.choice((b"\0", b"\n", b"\r\n", b"\r", b"ok\n", b"ls\nrm a\n", b"add b 3\r\r\n", b"\xff\xc3x", chance.randbytes(max(1, size))))
     return (pieces * (size // len(pieces) + 1))[:size]
 
 
 def with_payload(chance: random.Random) -> bytes:
-    """A line that asks for a payload, or nearly does, and bytes behind it: the right number of them, or others."""
+    """A line that requires a payload, or nearly does, and bytes after it: the right number of them, or others."""
     size = chance.choice(SIZES) if chance.random() < 0.98 else chance.choice(LARGE)
     said = chance.choice((b"%d", b"%d", b"%d", b"0%d", b"%012d")) % size
     if chance.random() < 0.1:
@@ -86,15 +86,15 @@ def random_input(chance: random.Random) -> bytes:
     return b"".join(parts)
 
 
-# What an image has before a session by chance.
+# The commands that ran on an image before a random session.
 BEFORE = b"mkdir w\nmkdir v\nmkdir y:\nadd a 5 w\nfirst\ncreate b v y:1\n"
 CUT = b"no 03 cut payload\n"
-# The room of each command of a session by chance, in turn.
+# The rooms of the commands of a random session, in turn.
 ROOMS_BY_TURNS = (0, 0, 5, 2)
 
 
 def differences(number: int) -> list[tuple[object, ...]]:
-    """In what the client and the program differ over the session of this number. It makes its images in the folder in which it is called."""
+    """How the client and the program differ over the session of this number. It makes its images in the current folder."""
     chance, limits = random.Random(number), ("64", "64", "40", "v2") if number % 2 else ("64", "64", "8")
     Program([PROGRAM, "make", "image", *limits]).close()
     shown_by([PROGRAM, "run", "image"], BEFORE)
@@ -136,7 +136,7 @@ def in_commands(image: str, data: bytes, chance: random.Random) -> Got:
 
 
 def received(program: Program) -> Got:
-    """All replies of a program that has ended. Of one that took other commands than it was sent there are fewer, or others, or more."""
+    """All replies of a program that has ended. If it read other commands than were sent, there are fewer, or others, or more."""
     replies: Got = []
     try:
         while True:
@@ -155,7 +155,7 @@ def at_the_end(items: Items) -> Iterator[Item]:
 
 
 def in_rooms(image: str, data: bytes, chance: random.Random) -> Got:
-    """The replies to the commands that come whole, in rooms by turns."""
+    """The replies to the complete commands, in alternating rooms."""
     with Program([PROGRAM, "rooms", image], rooms=True) as program:
         for taken, room in zip(taken_in_pieces(Items(ROOM_LINE), data, chance), itertools.cycle(ROOMS_BY_TURNS)):
             program.send_bytes(*taken, room)
@@ -163,7 +163,7 @@ def in_rooms(image: str, data: bytes, chance: random.Random) -> Got:
 
 
 def tagged(image: str, data: bytes) -> Got:
-    """The same of a program that is given the input as it is, but for lines without words, and with a tag ahead of each command."""
+    """The same from a program that gets the input as it is, except lines without words, and with a tag before each command."""
     ends, given = sessions.ends_of(data, ROOM_LINE), b""
     for (begin, end), room in zip(itertools.pairwise([0, *ends]), itertools.cycle(ROOMS_BY_TURNS)):
         while (feed := data.index(b"\n", begin)) - begin <= ROOM_LINE and not words_of(data[begin:feed]):

@@ -1,4 +1,4 @@
-"""A server that listens at a Unix socket (`tools/serve`), its clients, and what they send by chance. For tests alone."""
+"""A server that listens at a Unix socket (`tools/serve`), its clients, and their random commands. Only for tests."""
 from __future__ import annotations
 
 import os
@@ -18,13 +18,13 @@ from support.waiting import LONG, is_running, stop, until
 
 SERVE, TALK = tool("serve"), tool("talk")
 LIMITS = ("1024", "512", "2048", "v2")
-# What `pwd` shows to one at the root, and what a talk says that was not replied to.
+# What `pwd` shows to a client at the root, and what a talk says if there was no reply.
 PWD = b"w /\nok\n"
 ENDED = "talk: socket: the server ended before all was replied to\n"
 
 
 def make(image: str = "image", limits: Sequence[str] = LIMITS) -> str:
-    """Makes an image for a server. Its name."""
+    """Makes an image for a server. Returns its name."""
     return images.make(image, limits)
 
 
@@ -44,7 +44,7 @@ def script(name: str, text: str) -> str:
 
 
 def answers(path: str) -> bool:
-    """Whether a server listens. It is asked with a connection, which is gone again."""
+    """Whether a server listens. It is tried with a connection, which is closed again."""
     try:
         connected(path).close()
         return True
@@ -60,7 +60,7 @@ def connected(path: str = "socket") -> socket.socket:
 
 
 class Peer:
-    """A client that sends these bytes in pieces, and ends then, or where `ends` is false waits for the server to do so."""
+    """A client that sends these bytes in pieces, and then ends, or if `ends` is false waits for the server to do so."""
 
     def __init__(self, data: bytes, path: str = "socket", ends: bool = True, piece: int = 65_536) -> None:
         self.connection, self.left, self.ends, self.piece, self.got, self.is_over = connected(path), data, ends, piece, b"", False
@@ -97,7 +97,7 @@ class Peer:
 
 
 def drive(peers: Sequence[Peer], is_enough: Callable[[], bool] = lambda: False) -> list[bytes]:
-    """Lets clients send and read until their connections are closed by the server, or it is enough. What each of them got."""
+    """Lets clients send and read until the server closes their connections, or it is enough. Returns what each of them got."""
     limit = time.monotonic() + LONG
     while (open_ones := [peer for peer in peers if not peer.is_over]) and not is_enough():
         if time.monotonic() > limit:
@@ -111,7 +111,7 @@ def drive(peers: Sequence[Peer], is_enough: Callable[[], bool] = lambda: False) 
 
 
 class Shown(NamedTuple):
-    """The whole replies among some bytes, in order, and whether nothing else is there."""
+    """The complete replies in some bytes, in order, and whether nothing else is there."""
 
     replies: list[bytes]
     is_all: bool
@@ -126,7 +126,7 @@ def replies_in(shown: bytes) -> Shown:
 
 
 def asked(connection: socket.socket, data: bytes, wanted: int) -> bytes:
-    """Sends bytes and takes in as many as are wanted, or fewer where the server closes."""
+    """Sends bytes and reads as many as are wanted, or fewer if the server closes."""
     connection.sendall(data)
     got = b""
     while len(got) < wanted and (more := connection.recv(wanted - len(got))):
@@ -149,24 +149,24 @@ class Served(Running):
             raise TimeoutError("no server")
 
     def finds(self, number: int) -> None:
-        """Sends it a signal, and to its program too as a terminal does, which it finds before all that comes from now on."""
+        """Sends a signal to it, and to its program as a terminal does, which is handled before all that comes from now on."""
         stop(self.process.pid)
         os.killpg(self.process.pid, number)
         self.process.send_signal(signal.SIGCONT)
 
     def killed(self) -> bool:
-        """Kills it, and waits until its program has found that out too, and has the image no more."""
+        """Kills it, and waits until its program has noticed that too, and no longer has the image."""
         program = self.program()
         self.end(signal.SIGKILL)
         return until(lambda: not is_running(program))
 
 
 def refusing(image: str, path: str = "socket", **more: Any) -> End:
-    """The status of a server that does not begin, and what it says."""
+    """The status of a server that does not start, and what it says."""
     return Served(image, path, wait=False, **more).ended()
 
 
-# Lines, for a file N; such with a payload of S bytes, and what stands behind it; and what may stand at the end of an input.
+# Lines, for a file N; lines with a payload of S bytes, and what follows it; and what may be at the end of an input.
 LINES = (b"ls", b"cd w", b"cd /", b"cd ..\r", b"cd ..\r\r", b"pwd", b"pwd\r\r", b"add N 3\r\r", b"write N 2\r\r\r", b"stat", b"mkdir w",
          b"mkdir " + b"w" * 60, b"cat N", b"cat N\r", b"rm N", b"create N w",
          b"props N", b"add N 0000000000001", b"add N 0\n", b"add N 0\nls", b"", b" \t ", b"\r", b"\r\r", b"\0\xff\x0b", b"\x0c", b"x" * 1_021,
@@ -197,7 +197,7 @@ def random_input(chance: random.Random, ends: Sequence[bytes]) -> bytes:
 
 
 def random_session(chance: random.Random, own: bytes, length: int) -> bytes:
-    """The commands of a client that has words and files of its own, below a place of its own."""
+    """The commands of a client that has separate words and files, below a separate place."""
     words = [own + b"a", own + b"b", own + b"c", own + b"y:1", own + b"y:2"]
     begin = b"mkdir %b\ncd %b\n" % (own, own) + b"".join(b"mkdir %b%b\n" % (own, word) for word in (b"a", b"b", b"c", b"y:"))
 

@@ -1,4 +1,4 @@
-"""What calls of the client answer. For tests alone."""
+"""The results of calls of the client. Only for tests."""
 from collections.abc import Callable
 from typing import Any
 
@@ -16,7 +16,7 @@ CONTENTS = {
 
 
 def told_by(call: Callable[..., Any], *words: Any, **more: Any) -> Any:
-    """What a call answers: the kind and the body of a reply, or the error with what it tells."""
+    """The result of a call: the kind and the body of a reply, or the error with its fields."""
     try:
         return call(*words, **more)
     except Refused as refusal:

@@ -1,4 +1,4 @@
-"""A tool that runs beside a test: how it is started, how it ends, and what it said. For tests and measures alone."""
+"""A tool that runs during a test: how it is started, how it ends, and what it said. Only for tests and measurements."""
 from __future__ import annotations
 
 import contextlib
@@ -27,13 +27,13 @@ def told(command: Sequence[str], data: bytes, **more: Any) -> Told:
     return Told(ran.returncode, ran.stdout, ran.stderr.decode())
 
 
-# Those that were started and not ended for sure.
+# Processes that were started and not certainly ended.
 STARTED: list[subprocess.Popen[bytes]] = []
 
 
 class Running:
-    """A tool that runs, in a `with` block, at whose end it is ended. It waits for others as long as the test does. What it shows goes to
-    `output`; `more` is for `Popen`."""
+    """A tool that runs, in a `with` block, at whose end it is ended. It waits for others as long as the test does. Its output goes to `output`;
+    `more` is for `Popen`."""
 
     def __init__(self, command: Sequence[str], program: str = PROGRAM, patience: float | str = LONG, output: int = subprocess.DEVNULL,
                  **more: Any) -> None:
@@ -55,7 +55,7 @@ class Running:
         return self.ended()
 
     def ended(self) -> End:
-        """The same of one that ends by itself."""
+        """The same for a tool that ends on its own."""
         status = self.process.wait(LONG)
         if self.process.stdout:
             self.process.stdout.close()
@@ -63,18 +63,18 @@ class Running:
         return End(status, self.said.read().decode())
 
     def program(self) -> int:
-        """The number of the program's process."""
+        """The process id of the program."""
         return children(self.process.pid)[0]
 
     def memory(self) -> int:
-        """How many MiB it has taken at most."""
+        """The most MiB that it has used."""
         with open(f"/proc/{self.process.pid}/status", encoding="ascii") as lines:
             return next(int(line.split()[1]) for line in lines if line.startswith("VmHWM")) // 1_024
 
 
 @contextlib.contextmanager
 def none_left() -> Iterator[None]:
-    """What is started in the block has ended after it, also where the block was broken off."""
+    """What is started in the block has ended after it, even if the block was interrupted."""
     before = len(STARTED)
     try:
         yield

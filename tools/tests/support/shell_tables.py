@@ -1,4 +1,4 @@
-"""What the shell makes of scripts, and an image to try it on. For its test alone."""
+"""Scripts for the shell and their output, and an image to try it on. Only for its tests."""
 import random
 
 SMALL = ("64", "64", "8")
@@ -12,7 +12,7 @@ create single music year:1999
 create notes
 """
 
-# Scripts on an image of these: what comes on both streams.
+# Scripts on an image of these: the output on both streams.
 SCRIPTS = (
     ("nothing", b"", b"", ""),
     ("blanks", b" \t\n\r\n\n", b"", ""),
@@ -79,7 +79,7 @@ FULL = b"".join(b"create f%02d\n" % k for k in range(64))
 PAIRS = b"".join(b"axiom w%02d w%02d\n" % (k, m) for k in range(12) for m in range(k))
 WIDE = b"mkdir w\n" + b"".join(b"mkdir a%d\naxiom w a%d\n" % (k, k) for k in range(128))
 
-# Lines on an empty image of these limits, and those of them that are refused, each with its number and its sentence.
+# Lines on an empty image of these limits, and the refused ones, each with its number and its sentence.
 REFUSED = (
     (SMALL, b"add x a\n", (1, "a: no count of bytes")),
     (SMALL, b"add . 1\nx\n", (1, f".: no name of a file, which has {FORM}")),
@@ -143,7 +143,7 @@ PLACES = (b"/", b"/w1", b"/w0/w5", b"/!w1", b"/w2|w3|year:1991", b"/ext:", b"/fr
 
 
 def library(count: int = 60) -> bytes:
-    """Lines that make an image of so many files with given words, a taxonomy, mails, sources and declared tests."""
+    """Lines that make an image of N files with given words, a taxonomy, mails, sources and declared tests."""
     rng = random.Random(11)
     lines: list[bytes] = []
     words = [f"w{k}" for k in range(12)]

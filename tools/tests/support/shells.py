@@ -1,4 +1,4 @@
-"""The prompt over scripts, as a program and within this process. For its test alone."""
+"""The prompt with scripts, as a program and within this process. Only for its tests."""
 import contextlib
 import signal
 from collections.abc import Iterator
@@ -41,7 +41,7 @@ class Kept(Screen):
 
 
 class Within:
-    """A shell in this process. A call says what a script is answered there, as `shell` does."""
+    """A shell in this process. Calling it returns the answer to a script, as `shell` does."""
 
     def __init__(self, session: Session) -> None:
         self.screen, self.session = Kept(), session

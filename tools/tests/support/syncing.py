@@ -1,4 +1,4 @@
-"""Runs of `tools/sync`, folders for them, and what they leave in an image. For its tests alone."""
+"""Runs of `tools/sync`, folders for them, and what they leave in an image. Only for its tests."""
 import contextlib
 import fcntl
 import os
@@ -18,7 +18,7 @@ LIMITS = ("256", "1024", "512")
 
 
 def make(image: str = "image", limits: Sequence[str] = LIMITS) -> str:
-    """Makes an image. Its name."""
+    """Makes an image. Returns its name."""
     return images.make(image, limits)
 
 
@@ -32,7 +32,7 @@ class Synced(NamedTuple):
 
 def sync(*words: str, program: str = PROGRAM, python: str = sys.executable, user: int | None = None, **environment: str) -> Synced:
     if user is not None:
-        # Each user has memories of their own.
+        # Each user has separate memories.
         environment["XDG_STATE_HOME"] = os.path.abspath(f"state-{user}")
         os.makedirs(environment["XDG_STATE_HOME"], exist_ok=True)
         os.chmod(environment["XDG_STATE_HOME"], 0o777)
@@ -43,7 +43,7 @@ def sync(*words: str, program: str = PROGRAM, python: str = sys.executable, user
 
 
 def as_user(user: int | None) -> dict[str, Any]:
-    """The words for `subprocess` by which a user runs a program. None is who runs the tests."""
+    """The arguments of `subprocess` with which a user runs a program. None means the user who runs the tests."""
     return {} if user is None else {"user": user, "group": user, "extra_groups": []}
 
 
@@ -78,7 +78,7 @@ def memory_words(image: str = "image") -> list[bytes]:
 
 
 def brought_in(*files: str) -> Synced:
-    """Makes an image with these files of a folder, each with a word that somebody gave it. How the run ended."""
+    """Makes an image with these files of a folder, each with a word that somebody gave it. Returns how the run ended."""
     make()
     for name in files:
         written(f"top/{name}", f"{name} as it was\n")
@@ -99,7 +99,7 @@ def is_free(image: str) -> bool:
 
 
 def who_may_not_read(path: str) -> dict[str, Any] | None:
-    """By which user, and which Python, the tool can be run so that it can't read a file, or None. Root may read all."""
+    """The user, and the Python, that can run the tool so that it can't read a file, or None. Root may read everything."""
     for user in (None, 65_534):
         for python in (sys.executable, "/usr/bin/python3"):
             with contextlib.suppress(OSError, subprocess.SubprocessError):

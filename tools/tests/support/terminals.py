@@ -1,4 +1,4 @@
-"""A program at a terminal, and a person at a real one (`tmux`). For tests alone."""
+"""A program at a terminal, and a person at a real one (`tmux`). Only for tests."""
 import contextlib
 import fcntl
 import os
@@ -12,7 +12,7 @@ from typing import Self
 
 from support.waiting import LONG, rest, stop, until
 
-# What would make a terminal another one than that of the next machine.
+# Variables that would make a terminal differ from that of another machine.
 OTHERS = ("NO_COLOR", "INPUTRC", "COLUMNS", "LINES", "TMUX", "PAGER", "LESS")
 ROWS, COLUMNS = 30, 100
 KEYS = ("Enter", "Tab", "Up", "C-a", "C-c", "C-d")
@@ -50,7 +50,7 @@ class Terminal:
         return self
 
     def _read(self) -> bool:
-        """Takes in what is shown, after waiting for it. Whether there was more than the end."""
+        """Reads what is shown, after waiting for it. Returns whether there was more than the end."""
         if not select.select([self._side], [], [], LONG)[0]:
             return False
         try:
@@ -61,7 +61,7 @@ class Terminal:
         return bool(data)
 
     def sees(self, text: bytes) -> bytes | None:
-        """What is shown up to a text, from behind the last one that was waited for. None where it does not come."""
+        """What is shown up to a text, after the last one that was waited for. None if it does not come."""
         while (found := self.shown.find(text, self._at)) < 0:
             if not self._read():
                 return None
@@ -75,14 +75,14 @@ class Terminal:
         return number
 
     def ends(self) -> int | None:
-        """The status with which it ends, or None where it does not."""
+        """The status with which it ends, or None if it does not end."""
         while self._read():
             pass
         until(self._has_ended)
         return self.status
 
     def interrupts(self, line: bytes, waited_for: int) -> None:
-        """Types a line while a process is stopped for which the program then waits, and then Ctrl-C. The process goes on."""
+        """Types a line while the process that the program then waits for is stopped, and then Ctrl-C. The process goes on."""
         stop(waited_for)
         self.types(line).sees(b"\r\n")
         rest(self.process)
@@ -92,7 +92,7 @@ class Terminal:
 
 
 class Person:
-    """Somebody at a real terminal, in a `with` block. The server of `tmux` is one of its own, and ends with it."""
+    """A person at a real terminal, in a `with` block. The server of `tmux` is a separate one, and ends with it."""
 
     def __init__(self, command: str) -> None:
         with open("tmux.conf", "w", encoding="ascii") as file:
@@ -119,11 +119,11 @@ class Person:
         subprocess.run(self._words("kill-server"), stderr=subprocess.DEVNULL, timeout=LONG, check=False)
 
     def asks(self, *words: str) -> str:
-        """What `tmux` answers to a command of its own."""
+        """The result of a command of `tmux` itself."""
         return subprocess.run(self._words(*words), stdout=subprocess.PIPE, timeout=LONG, check=True).stdout.decode()
 
     def types(self, *keys: str) -> None:
-        """Each a text, or the name of a key."""
+        """Types texts, or keys by name."""
         for key in keys:
             self.asks("send-keys", *(() if key in KEYS else ("-l",)), key)
 
@@ -132,9 +132,9 @@ class Person:
         self.asks("paste-buffer", "-p")
 
     def screen(self) -> str:
-        """The lines that are there, without blanks at their ends, and a line feed ahead of each."""
+        """The lines of the screen, without blanks at their ends, and a line feed before each."""
         return "".join("\n" + line for line in self.asks("capture-pane", "-p").rstrip().splitlines())
 
     def sees(self, text: str) -> bool:
-        """Whether the screen ends with a text as soon as it does, or does not get so."""
+        """Waits until the screen ends with a text. Returns False if it does not."""
         return until(lambda: self.screen().endswith(text))

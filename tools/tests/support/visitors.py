@@ -1,4 +1,4 @@
-"""Who asks `tools/browse` for pages, as a browser does, and what a page has. For tests and measures alone."""
+"""A client that requests pages of `tools/browse`, like a browser, and the contents of a page. Only for tests and measurements."""
 from __future__ import annotations
 
 import html.parser
@@ -45,7 +45,7 @@ class Link(NamedTuple):
 
 
 class Answer(NamedTuple):
-    """What comes for a request, with its whole body."""
+    """The answer to a request, with its whole body."""
 
     status: int
     headers: http.client.HTTPMessage
@@ -53,7 +53,7 @@ class Answer(NamedTuple):
 
 
 class Seen(html.parser.HTMLParser):
-    """What a page has: its links, its forms with their fields, and its text. `wrong` is what no page has."""
+    """The contents of a page: its links, its forms with their fields, and its text. `wrong` is what no page may have."""
 
     def __init__(self, text: str) -> None:
         super().__init__()
@@ -94,7 +94,7 @@ class Seen(html.parser.HTMLParser):
             self.links[-1] = self.links[-1]._replace(text=self.links[-1].text + data)
 
     def counts(self) -> dict[bytes, int]:
-        """Of each word of the page the number of files that it is said to leave."""
+        """For each word of the page the number of files that it leaves, as shown."""
         told = [re.fullmatch(r"(.+), ([0-9,]+) files?", link.label) for link in self.links if link.label]
         return {found[1].encode(): int(found[2].replace(",", "")) for found in told if found}
 
@@ -104,7 +104,7 @@ class Seen(html.parser.HTMLParser):
 
 
 class Visitor:
-    """Asks a tool as a browser does that has come by the printed address."""
+    """Sends requests to a tool as a browser does that has opened the printed address."""
 
     def __init__(self, browsed: Browsed) -> None:
         self.port, self.host, self.top = browsed.port, f"127.0.0.1:{browsed.port}", "/"

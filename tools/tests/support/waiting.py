@@ -1,7 +1,7 @@
-"""What tests wait for: until something is so, and never a time that is meant to be enough. For tests alone.
+"""How tests wait: until a condition holds, and never for a fixed time. Only for tests.
 
-So no verdict counts on how quick a machine is, or on what else it has to do. LONG is no measure of anything: what has not come by then is
-taken to come no more, and the test that waits for it fails in place of staying.
+So no result depends on how fast a machine is, or on its other work. LONG measures nothing: what has not come by then is assumed never to come, and
+the test that waits for it fails instead of hanging.
 """
 import contextlib
 import fcntl
@@ -22,11 +22,11 @@ LONGEST = 4 * LONG
 
 
 class TooLong(BaseException):
-    """A group of checks had no end. It is no `Exception`, since a test may take the system's errors for answers."""
+    """A group of checks did not end. It is no `Exception`, since a test may catch system errors as results."""
 
 
 def until(is_so: Callable[[], T]) -> T:
-    """What something is as soon as it is true, or, where it does not get so, what it is at last."""
+    """The value of a condition as soon as it is true, or else its last value."""
     limit = time.monotonic() + LONG
     while not (found := is_so()) and time.monotonic() < limit:
         time.sleep(0.005)
@@ -35,7 +35,7 @@ def until(is_so: Callable[[], T]) -> T:
 
 @contextlib.contextmanager
 def with_an_end() -> Iterator[None]:
-    """Raises `TooLong` where the block has no end."""
+    """Raises `TooLong` if the block does not end."""
     def too_long(*_: object) -> None:
         raise TooLong
 
@@ -49,7 +49,7 @@ def with_an_end() -> Iterator[None]:
 
 
 def hear(*numbers: signal.Signals) -> None:
-    """From now on what is started gets these signals, also where this was started by what ignores them, as `nohup` or a shell's `&` does."""
+    """From now on started processes receive these signals, even if this one was started with them ignored, as by `nohup` or a shell's `&`."""
     for number in numbers:
         if signal.getsignal(number) == signal.SIG_IGN:
             signal.signal(number, signal.SIG_DFL)
@@ -66,13 +66,13 @@ class State(NamedTuple):
 
 
 def fields_of(process: int) -> list[str]:
-    """What the system says of a process, from its state on: the fields of proc_pid_stat(5) from the third on."""
+    """The fields of proc_pid_stat(5) for a process from the third one on, its state."""
     with open(f"/proc/{process}/stat", encoding="ascii", errors="replace") as told:
         return told.read().rpartition(")")[2].split()
 
 
 def state_of(process: int) -> State | None:
-    """None where there is no such process."""
+    """The state of a process, or None if there is no such process."""
     try:
         letter, parent = fields_of(process)[:2]
     except OSError:
@@ -97,7 +97,7 @@ def is_running(process: int) -> bool:
 
 
 def waits_of(process: int) -> int | None:
-    """How often a process waited so far, where it waits now, and neither for a processor nor for a disk, and has found all signals; else None."""
+    """How often a process has waited so far, if it waits now, neither for a processor nor for a disk, and has handled all signals; else None."""
     try:
         with open(f"/proc/{process}/status", encoding="ascii", errors="replace") as told:
             rows = dict(row.split(":", 1) for row in told)
@@ -108,7 +108,8 @@ def waits_of(process: int) -> int | None:
 
 
 def rest(*processes: int) -> bool:
-    """Waits until all of these do nothing any more before something comes from elsewhere. Whether they do: one that has ended never will."""
+    """Waits until none of these processes does anything before something comes from elsewhere. Returns whether they all do so: one that has ended
+    never will."""
     looks: list[list[int | None]] = [[None]]
 
     def is_so() -> bool:
@@ -122,7 +123,7 @@ def rest(*processes: int) -> bool:
 
 
 def stop(process: int) -> bool:
-    """Stops a process until it is killed or goes on. It takes nothing in from now on."""
+    """Stops a process until it is killed or continues. It reads nothing from now on."""
     os.kill(process, signal.SIGSTOP)
     return until(lambda: (state_of(process) or "T")[0] == "T")
 
@@ -136,7 +137,7 @@ def unread(descriptor: int | socket.socket) -> int:
 
 @contextlib.contextmanager
 def input_of(process: int, flags: int) -> Iterator[int]:
-    """The pipe from which a process takes its input."""
+    """The pipe that is a process's standard input."""
     pipe = os.open(f"/proc/{process}/fd/0", flags | os.O_NONBLOCK)
     try:
         yield pipe
@@ -145,14 +146,14 @@ def input_of(process: int, flags: int) -> Iterator[int]:
 
 
 def not_taken(process: int) -> int:
-    """How many bytes of its input a process has not taken, or none where it has no such pipe yet, or no more."""
+    """How many bytes of its input a process has not read; none if it has no such pipe yet, or no longer."""
     with contextlib.suppress(OSError), input_of(process, os.O_RDONLY) as pipe:
         return unread(pipe)
     return 0
 
 
 def is_full(process: int) -> bool:
-    """Whether the pipe from which a process takes its input takes no more."""
+    """Whether the pipe that is a process's standard input is full."""
     poll = select.poll()
     with contextlib.suppress(OSError), input_of(process, os.O_WRONLY) as pipe:
         poll.register(pipe, select.POLLOUT)

@@ -1,4 +1,4 @@
-"""What the tests of `tools/browse` share: images, files that were made to do harm, and who asks for pages. For tests alone."""
+"""What the tests of `tools/browse` share: images, hostile files, and clients of the pages. Only for tests."""
 import contextlib
 import os
 import re
@@ -15,7 +15,7 @@ from support import visitors
 from support.visitors import Browsed, Seen
 from support.waiting import LONG
 
-# So many seconds of processor a page takes at most, since others wait for it, on the machine of `costs`.
+# The most seconds of processor time of a page, since others wait for it, on the machine of `costs`.
 COST = 0.5
 EVIL = b"<script>alert('1')</script>\" ' & <img src=x onerror=alert(2)> \xff\xfe \xe2\x80\xae end\n"
 MAIL = (b"From: Alice <alice@example.org>\r\nTo: bob@example.org\r\nSubject: =?utf-8?q?Gr=C3=BC=C3=9Fe?=\r\nMIME-Version: 1.0\r\n"
@@ -70,7 +70,7 @@ MIXED = b"".join((
 
 
 def make(image: str, data: bytes = b"", limits: tuple[str, ...] = ("256", "1024", "600", "v2")) -> str:
-    """Makes an image on which these lines were run, none of which is refused. Its path."""
+    """Makes an image on which these lines ran, none of which is refused. Returns its path."""
     Program([PROGRAM, "make", image, *limits]).close()
     replies = shown_by([PROGRAM, "run", image], data)
     assert set(replies.split(b"\n")) <= {b"ok", b""}, replies[:300]
@@ -78,7 +78,7 @@ def make(image: str, data: bytes = b"", limits: tuple[str, ...] = ("256", "1024"
 
 
 def numbers_by_program(image: str, places: Iterable[bytes]) -> dict[bytes, int]:
-    """How many files the program has at each of these places: all files are asked for there."""
+    """How many files the program has at each of these places: all files are requested there."""
     dump = shown_by([PROGRAM, "dump", image])
     names = re.findall(rb"(?m)^add (\S+) [0-9]+", dump)
     found = {}
@@ -96,10 +96,10 @@ def numbers_by_program(image: str, places: Iterable[bytes]) -> dict[bytes, int]:
 
 
 class Visitor(visitors.Visitor):
-    """Asks for pages, and looks at each for what no page has."""
+    """Requests pages, and checks that each has nothing that no page may have."""
 
     def page(self, page: str = "", /, status: int = 200, **given: str | bytes | int) -> Seen:
-        """A page, which has the status that is awaited and nothing that no page has."""
+        """A page, which has the expected status and nothing that no page may have."""
         answer = self.get(page, **given)
         seen = Seen(answer.data.decode())
         assert (answer.status, seen.wrong) == (status, []), seen.text[:200]
@@ -108,7 +108,7 @@ class Visitor(visitors.Visitor):
         return seen
 
     def does(self, page: str, given: dict[str, str], done: bool, *said: str) -> Seen:
-        """Sends a form, and looks at the page after it."""
+        """Sends a form, and checks the page after it."""
         answer = self.post(page, given)
         told = Seen(self.ask("GET", answer.headers["Location"]).data.decode()) if answer.status == 303 else Seen(answer.data.decode())
         assert (answer.status, told.wrong) == (303 if done else 409, []), told.text[-400:]
@@ -143,7 +143,7 @@ def connected(port: int, data: bytes = b"") -> socket.socket:
 
 
 def raw(port: int, data: bytes, ends: bool = False) -> bytes:
-    """What comes for some bytes."""
+    """The answer to some bytes."""
     with connected(port) as connection:
         with contextlib.suppress(OSError):
             connection.sendall(data)
@@ -159,7 +159,7 @@ def good_request(visitor: visitors.Visitor) -> bytes:
 
 @contextlib.contextmanager
 def in_memory() -> Iterator[str]:
-    """A folder, in memory where there is such a one, since thousands of changes are made, and each syncs."""
+    """A folder, in memory if possible, since thousands of changes are made, and each syncs."""
     folder = tempfile.mkdtemp(dir="/dev/shm" if os.access("/dev/shm", os.W_OK) else None)
     try:
         yield folder
@@ -179,21 +179,21 @@ def web_program() -> str:
 
 @pytest.fixture(scope="module")
 def web_mixed(web_program: str) -> Iterator[str]:
-    """The path of an image of files of all kinds, which the tests of a module leave as it is."""
+    """The path of an image of files of all kinds, which the tests of a module don't change."""
     with in_memory() as folder:
         yield make(os.path.join(folder, "image"), MIXED)
 
 
 @pytest.fixture(scope="module")
 def web_reading(web_mixed: str) -> Iterator[tuple[Browsed, Visitor]]:
-    """Pages of that image which change nothing, and who asks for them."""
+    """Pages of that image which change nothing, and a client for them."""
     with Browsed(web_mixed) as browsed:
         yield browsed, Visitor(browsed)
 
 
 @pytest.fixture(scope="module")
 def web_writing(web_program: str) -> Iterator[tuple[Browsed, Visitor]]:
-    """Pages which may change things, of an image with one file, and who asks for them."""
+    """Pages which may change things, of an image with one file, and a client for them."""
     with in_memory() as folder, Browsed(make(os.path.join(folder, "other"), b"create f\n"), "--write") as browsed:
         yield browsed, Visitor(browsed)
 

@@ -1,4 +1,4 @@
-"""What a mount answers: tables, and mounts to be asked in any of the ways of `asking`. For tests alone."""
+"""The answers of a mount: tables, and mounts that are asked in any of the ways of `asking`. Only for tests."""
 from __future__ import annotations
 
 import contextlib
@@ -30,7 +30,7 @@ MOUNT = tool("mount")
 
 
 def told_by(call: Callable[..., Any], *given: Any) -> Any:
-    """What a call answers: its result, the name of the system's error, or another error."""
+    """The result of a call, the name of a system error, or another error."""
     try:
         return asking.told_by(call, *given)
     except (NotAFormula, TooLarge, NotADump, Ended) as error:
@@ -42,7 +42,7 @@ def make(image: str, *limits: str) -> None:
 
 
 def has_inodes() -> bool:
-    """Whether this system tells the inodes of open files."""
+    """Whether this system shows the inodes of open files."""
     with open("/proc/self/stat", encoding="ascii") as file, open(f"/proc/self/fdinfo/{file.fileno()}", encoding="ascii") as info:
         return "ino:" in info.read()
 
@@ -88,7 +88,7 @@ def really(image: str, with_derived: bool = False) -> Iterator[Real]:
 
 
 class Mount:
-    """A run of `tools/mount`, which is waited for until the folder can be used."""
+    """A run of `tools/mount`. It waits until the folder can be used."""
 
     def __init__(self, image: str, folder: str, *more: str) -> None:
         self.folder = os.path.abspath(folder)
@@ -116,7 +116,7 @@ class Mount:
         return End(self.child.returncode, said)
 
 
-# What a program finds and what it gets, each row in turn over one image: the answer, the call, and what it is given.
+# What a program finds and gets, each row in turn over one image: the answer, the call, and its arguments.
 Rows: TypeAlias = tuple[tuple[object, ...], ...]
 FOLDERS: Rows = (
     ([], "ls", ""),
@@ -180,10 +180,10 @@ TAKING_BACK: Rows = (
     (None, "mkdir", "a"), (None, "mkdir", "a/b"), (None, "mkdir", "a/b/c"), (None, "put", "a/b/c/x", b""), (["x"], "ls", "a"),
     (None, "unlink", "a/x"), (None, "rmdir", "a"),
     ("ENOENT", "ls", "b"), ("ENOENT", "ls", "c"),
-    # But not where it was shown since.
+    # But not if it was shown since.
     (None, "mkdir", "a"), (None, "mkdir", "a/b"), (None, "put", "a/b/x", b""), (None, "unlink", "a/x"), (["b/"], "ls", "a"),
     ("ENOTEMPTY", "rmdir", "a"), (None, "rmdir", "a/b"), (None, "rmdir", "a"),
-    # A word of two folders belongs to each that says what it doesn't reach by another.
+    # A word of two folders belongs to each whose word it doesn't entail by another one.
     (None, "mkdir", "a"), (None, "mkdir", "b"), (None, "mkdir", "a/b/c"), (["a/", "b/", "todo"], "ls", ""), (["c/"], "ls", "a"),
     (["c/"], "ls", "b"), (["c/"], "ls", "b/a"),
     (None, "put", "a/x", b""), (None, "put", "a/b/y", b""), (["b/", "x"], "ls", "a"), (["c/", "y"], "ls", "a/b"),
@@ -191,7 +191,7 @@ TAKING_BACK: Rows = (
     (None, "mkdir", "music"), (None, "put", "music/x", b"again"), (["music/", "todo"], "ls", ""),
     (None, "mkdir", "year:"), (None, "put", "year:1/y", b""), (None, "unlink", "y"), (None, "rmdir", "year:1"), (None, "rmdir", "year:"),
     ("ENOENT", "ls", "year:1"),
-    # A test opens without being declared, so that it can't be.
+    # A test opens without being declared, so that it can't be declared.
     ("EEXIST", "mkdir", "size>=5"), (["x"], "ls", "size>=5"), ("ENOTEMPTY", "rmdir", "size>=5"), (None, "unlink", "x"),
     (None, "rmdir", "size>=5"), (["music/", "todo"], "ls", ""),
 )

@@ -1,7 +1,7 @@
-"""The other side, for tests and measures: asks a tree for what a kernel makes of the calls of a program.
+"""The other side, for tests and measurements: sends a tree the requests that a kernel makes from the calls of a program.
 
-`Direct` asks the handlers themselves, `Asker` stands between and spells each call as a message, anew after linux/fuse.h, and `Real` asks the
-system below a folder.
+`Direct` calls the handlers themselves, `Asker` writes each call as a message, with a separate implementation of linux/fuse.h, and `Real` makes system
+calls below a folder.
 """
 from __future__ import annotations
 
@@ -19,12 +19,12 @@ from lisfs.mount.tree import Tree
 
 # An entry of a folder: its inode, its kind and its name.
 Listed = tuple[int, int, bytes]
-# Who asks where nobody is named.
+# The caller if nobody is named.
 NOBODY = Caller(0, 0, 0)
 
 
 def told_by(call: Callable[..., Any], *given: Any) -> Any:
-    """What a call answers: its result, or the name of the system's error."""
+    """The result of a call, or the name of the system error."""
     try:
         return call(*given)
     except OSError as error:
@@ -32,7 +32,7 @@ def told_by(call: Callable[..., Any], *given: Any) -> Any:
 
 
 class NotAMessage(Exception):
-    """What came is no message of the kind that was awaited."""
+    """What came is not a message of the expected kind."""
 
 
 def must(is_so: bool, told: object) -> None:
@@ -41,13 +41,13 @@ def must(is_so: bool, told: object) -> None:
 
 
 def one(form: str, data: bytes) -> int:
-    """The one number in some bytes of this layout."""
+    """The single number in some bytes of this layout."""
     number, = struct.unpack(form, data)
     return int(number)
 
 
 class Direct:
-    """What a kernel makes of the calls of a program."""
+    """The requests that a kernel makes from the calls of a program."""
 
     def __init__(self, tree: Tree | Asker) -> None:
         self.tree, self.caller = tree, Caller(os.getuid(), os.getgid(), os.getpid())
@@ -139,7 +139,7 @@ class Direct:
 
     def close(self, handle: int) -> None:
         try:
-            # Some process that is none of ours.
+            # A process that is none of ours.
             self.tree.flush(handle, 0)
         finally:
             self.tree.release(handle)
@@ -151,7 +151,7 @@ class Direct:
         return self.tree.statfs()
 
     def put(self, path: str, data: bytes) -> None:
-        """Writes a file anew."""
+        """Writes a file from the start."""
         handle = self.open(path, os.O_WRONLY | os.O_CREAT | os.O_TRUNC)
         try:
             if data:
@@ -168,7 +168,7 @@ class Direct:
 
 
 class Real(Direct):
-    """The system's own calls below a folder."""
+    """System calls below a folder."""
 
     def __init__(self, folder: str) -> None:
         self.folder = folder
@@ -241,7 +241,7 @@ class Real(Direct):
 
 
 class Asker:
-    """The calls of a tree as messages of linux/fuse.h, spelled here anew."""
+    """The calls of a tree as messages of linux/fuse.h, which is implemented here separately."""
 
     def __init__(self, end: socket.socket) -> None:
         self.end, self.unique = end, 1
@@ -341,7 +341,7 @@ class Asker:
         self.ask(29, 0, struct.pack("=QIIQ", handle, 0, 0, 0))
 
     def readdir(self, handle: int, offset: int) -> list[Listed]:
-        """By small pieces, so that a listing takes many. The entries ahead of the offset are others."""
+        """In small pieces, so that a listing takes many. The entries before the offset are others."""
         data, at = self.ask(28, 0, struct.pack("=QQIIQII", handle, offset, 200, 0, 0, 0, 0)), 0
         entries: list[Listed] = [(0, 0, b"")] * offset
         while at < len(data):

@@ -1,4 +1,4 @@
-"""A session that makes an image of mails with words as `tools/sync` gives them, the same each time. For tests alone."""
+"""A session that makes an image of mails with words as `tools/sync` gives them, the same each time. Only for tests."""
 import random
 
 HEADS = (b"in:", b"date:", b"list:", b"who:", b"about:")
@@ -8,7 +8,7 @@ LIMITS = ("2048", "2048", "4096")
 
 
 def session(count: int) -> bytes:
-    """The lines that declare the words and add so many mails."""
+    """The lines that declare the words and add N mails."""
     chance = random.Random(41)
     parts = [b"mkdir %b\n" % word for word in (*HEADS, b"answered")]
     for number in range(count):
