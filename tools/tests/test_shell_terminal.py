@@ -11,7 +11,7 @@ from support.images import content, make, written
 from support.shell_tables import TAKEN, library
 from support.shells import SHELL, shell
 from support.terminals import Person
-from support.waiting import LONG, children, rest, stop, until
+from support.waiting import LONG, children, rest, until
 
 
 def test_terminals(at_terminal):
@@ -102,12 +102,7 @@ def test_stops(at_terminal):
         at.types(b"cd music\n").sees(b"/music\x1b[0m> ")
         program = children(at.process)[0]
         for line in (b"find /live\n", b"find live\n", b"ls -c\n", b"cat nosuch\n", b"find (\n"):
-            stop(program)
-            at.types(line).sees(b"\r\n")
-            rest(at.process)
-            at.types(b"\x03").sees(b"^C")
-            rest(at.process)
-            os.kill(program, signal.SIGCONT)
+            at.interrupts(line, program)
             assert at.sees(b"/music\x1b[0m> ") is not None, (f"a prompt behind {line}", at.shown[-300:])
         at.types(b"pwd\n")
         assert at.sees(b"w music\r\n") is not None, ("the place is the same", at.shown[-300:])
