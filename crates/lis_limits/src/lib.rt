@@ -22,23 +22,35 @@ pub const MAX_PLACED: u32 = 257;
 /// The first block of the properties.
 pub const PROPERTIES_START: u32 = 578;
 
-/// The most files of an image.
+/// The most files of an image of version 1 or 2.
 pub const MAX_FILES: u32 = 4_096;
 
-/// The most words of an image.
+/// The most words of an image of version 1 or 2.
 pub const MAX_PROPS: u32 = 8_192;
 
-/// The most data blocks of an image.
+/// The most data blocks of an image of version 1 or 2.
 pub const MAX_BLOCKS: u32 = 32_768;
 
-/// The most blocks of an image.
+/// The most blocks of an image of version 1 or 2.
 pub const MAX_IMAGE_BLOCKS: u32 = 34_771;
 
-/// The most bytes of a file in an image of the first version.
+/// The most bytes of a file in version 1.
 pub const MAX_FILE: u32 = 65_536;
 
-/// The most bytes of a file in an image of the second version.
+/// The most bytes of a file in version 2.
 pub const MAX_LARGE_FILE: u32 = 1_048_576;
+
+/// The most files in version 3.
+pub const V3_MAX_FILES: u32 = 262_144;
+
+/// The most words in version 3.
+pub const V3_MAX_PROPS: u32 = 1_048_576;
+
+/// The most data blocks in version 3.
+pub const V3_MAX_BLOCKS: u32 = 16_777_216;
+
+/// The most bytes of a file in version 3, if the data blocks have room for them.
+pub const V3_MAX_FILE: u32 = 67_108_864;
 
 /// A file that has bytes, and fewer than this, is small.
 pub const SMALL_FILE: usize = 1_024;
@@ -73,8 +85,8 @@ pub const MAX_FORMULA: usize = 1_024;
 /// The most bytes of a line, without its line feed.
 pub const MAX_LINE: usize = 1_024;
 
-/// The most bytes of a payload.
-pub const MAX_PAYLOAD: u32 = 1_048_576;
+/// The most bytes of a payload that are kept: as many as a file of any version may have.
+pub const MAX_PAYLOAD: u32 = V3_MAX_FILE;
 
 /// The most bytes of an edited view.
 pub const MAX_VIEW: u32 = 8_388_608;
@@ -90,6 +102,9 @@ pub const MAX_WORD: usize = 60;
 
 /// The most blocks of a content whose numbers are in the slot of its file. A larger one has an index block.
 pub const SLOT_BLOCKS: u32 = 16;
+
+/// How many block numbers an index block has, if each has four bytes.
+pub const NUMBERS_PER_INDEX: u32 = 1_024;
 
 /// How many words have their slots in one block.
 pub const PROPERTIES_PER_BLOCK: u32 = 64;

@@ -1,5 +1,5 @@
 -- Sessions, commands and derived words worked by the definitions alone.
-use Rattle.std.proofs.Common.{◌≡◌, ℕ, true, false, List, [], ◌∷◌, ◌++◌, length, codes, refl}
+use Rattle.std.proofs.Common.{◌≡◌, ℕ, Bool, true, false, List, [], ◌∷◌, ◌++◌, length, codes, refl}
 use Rattle.std.specs.Fmt.{digits}
 use Rattle.lis_grammar.specs.Machine.{text_steps, broken_at}
 use Rattle.lis_grammar.specs.Printing.{printed}
@@ -15,6 +15,7 @@ use Rattle.lis_model.specs.Script.{script, all_items, whole_items}
 use Rattle.lis_model.specs.declared.command.Command.{Command}
 use Rattle.lis_model.specs.declared.command.Command.TheVariants.{Mkdir, Rmdir, Axiom, Unaxiom, Create, Add, Write, Cat, Mv, Rename, Cd, Ls, Way, Stat}
 use Rattle.lis_model.specs.Derived.{derived_words}
+use Rattle.lis_model.specs.Ranges.{are_in_range}
 use Rattle.lis_model.specs.State.{file_limit, blocks_taken}
 use Rattle.lis_model.specs.Step.Item.{Do, Bad}
 use Rattle.lis_model.specs.Tests.{is_weaker}
@@ -208,7 +209,7 @@ weaker_below = refl
 unlike_tests : is_weaker (size_at_least 1) (size_below 2) ≡ false
 unlike_tests = refl
 
--- ---- versions: only in version 2 a block numbers more than 16 others
+-- ---- versions: in version 1 no block numbers others; in later ones one numbers up to 1,024 others, if they are more than 16
 taken_by_17 : blocks_taken 1 65537 ≡ 17
 taken_by_17 = refl
 
@@ -218,11 +219,57 @@ taken_by_17_and_1 = refl
 taken_by_16 : blocks_taken 2 65536 ≡ 16
 taken_by_16 = refl
 
-limit_1 : file_limit 1 ≡ 65536
+taken_by_1024_and_1 : blocks_taken 3 4194304 ≡ 1025
+taken_by_1024_and_1 = refl
+
+taken_by_1025_and_2 : blocks_taken 3 4194305 ≡ 1027
+taken_by_1025_and_2 = refl
+
+abbrev limit_of : ℕ → ℕ → ℕ
+limit_of version blocks = file_limit (record { files = 64; props = 64; blocks = blocks; version = version })
+
+limit_1 : limit_of 1 8 ≡ 65536
 limit_1 = refl
 
-limit_2 : file_limit 2 ≡ 1048576
+limit_2 : limit_of 2 8 ≡ 1048576
 limit_2 = refl
+
+-- in version 3 the blocks are a limit too
+limit_3 : limit_of 3 16384 ≡ 67108864
+limit_3 = refl
+
+limit_of_few_blocks : limit_of 3 16383 ≡ 67104768
+limit_of_few_blocks = refl
+
+abbrev ranges_of : ℕ → ℕ → ℕ → ℕ → Bool
+ranges_of version files props blocks = are_in_range (record { files = files; props = props; blocks = blocks; version = version })
+
+least_3 : ranges_of 3 64 64 1 ≡ true
+least_3 = refl
+
+most_3 : ranges_of 3 262144 1048576 16777216 ≡ true
+most_3 = refl
+
+most_2 : ranges_of 2 4096 8192 32768 ≡ true
+most_2 = refl
+
+many_files : ranges_of 2 8192 64 1 ≡ false
+many_files = refl
+
+too_many_files : ranges_of 3 524288 64 1 ≡ false
+too_many_files = refl
+
+no_power : ranges_of 3 96 64 1 ≡ false
+no_power = refl
+
+too_many_words : ranges_of 3 64 1048640 1 ≡ false
+too_many_words = refl
+
+too_many_blocks : ranges_of 3 64 64 16777217 ≡ false
+too_many_blocks = refl
+
+no_version_4 : ranges_of 4 64 64 1 ≡ false
+no_version_4 = refl
 
 -- ---- derived words
 name_and_size : derived_words (codes "a.b.Txt") [] ≡ codes "ext:Txt" ∷ codes "size:empty" ∷ []

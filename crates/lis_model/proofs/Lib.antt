@@ -1,4 +1,5 @@
 pub mod Runs
 pub mod Lines
 mod Examples
+pub mod Stored
 pub mod NotedLemmas

@@ -126,7 +126,7 @@ size_of_words (first ∷ second ∷ size ∷ words) =
 abbrev pub payload_size : List ℕ → Option ℕ
 payload_size text = if is_long text then None else size_of_words (line_words text)
 
--- the most bytes of a payload that are kept: as many as a file of version 2 may have
+-- the most bytes of a payload that are kept: as many as a file of any version may have
 abbrev pub payload_limit : ℕ
 payload_limit = MAX_PAYLOAD
 

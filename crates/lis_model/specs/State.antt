@@ -1,9 +1,9 @@
 -- What a state has: declared words, axioms and files, and the description of a file.
-use Rattle.std.specs.Prelude.{◌-◌, ℕ, ◌+◌, ◌/◌, ◌==◌, ◌≤◌, nat_lt, nat_le, Bool, not, ◌&&◌, ◌||◌, if◌then◌else◌, List, [], ◌∷◌, ◌++◌, length, map, sum, IsTrue}
+use Rattle.std.specs.Prelude.{◌-◌, ℕ, ◌+◌, ◌/◌, ◌==◌, ◌≤◌, ◌*◌, min, nat_le, Bool, not, ◌&&◌, ◌||◌, if◌then◌else◌, List, [], ◌∷◌, ◌++◌, length, map, sum, IsTrue}
 use Rattle.std.specs.List.{list_all, flat_map}
 use Rattle.std.specs.declared.cmp.Ordering.{Ordering}
 use Rattle.std.specs.Ordering.{ordering_then}
-use Rattle.lis_limits.specs.declared.TheConstants.{BLOCK_LEN, MAX_ASSIGNED, MAX_DESCRIPTION, MAX_FILE, MAX_LARGE_FILE, SLOT_BLOCKS}
+use Rattle.lis_limits.specs.declared.TheConstants.{BLOCK_LEN, MAX_ASSIGNED, MAX_DESCRIPTION, MAX_FILE, MAX_LARGE_FILE, NUMBERS_PER_INDEX, SLOT_BLOCKS, V3_MAX_FILE}
 use Rattle.lis_graph.specs.Graph as graph
 use Rattle.lis_graph.specs.Graph.{is_rising}
 use Rattle.lis_words.specs.Words.{word_cmp, same_word, has_word, head_bytes, is_plain_word, is_head, is_valued, is_test, is_built_in, is_file_name}
@@ -102,17 +102,26 @@ pair_cmp a b = ordering_then (word_cmp a.0 b.0) (word_cmp a.1 b.1)
 abbrev pub file_cmp : File → File → Ordering
 file_cmp a b = word_cmp a.name b.name
 
--- how many bytes a file may have
-abbrev pub file_limit : ℕ → ℕ
-file_limit version = if version == 2 then MAX_LARGE_FILE else MAX_FILE
+-- how many bytes a file may have: in version 3 no more than the data blocks have
+abbrev pub file_limit : Limits → ℕ
+file_limit limits =
+    if limits.version == 1 then MAX_FILE
+    else if limits.version == 2 then MAX_LARGE_FILE
+    else min V3_MAX_FILE (BLOCK_LEN * limits.blocks)
 
 -- how many blocks this many bytes fill
 abbrev pub blocks_needed : ℕ → ℕ
 blocks_needed bytes = (bytes + (BLOCK_LEN - 1)) / BLOCK_LEN
 
--- how many blocks they take: those, and in version 2 one more, which numbers them, if they are more than 16
+-- How many blocks number the blocks of a content: none in version 1, and none if the slot of its file has room for their numbers;
+-- otherwise one for each 1,024 of them.
+abbrev pub index_blocks : ℕ → ℕ → ℕ
+index_blocks version blocks =
+    if (version == 1) || nat_le blocks SLOT_BLOCKS then 0 else (blocks + (NUMBERS_PER_INDEX - 1)) / NUMBERS_PER_INDEX
+
+-- how many blocks this many bytes take, with those that number them
 abbrev pub blocks_taken : ℕ → ℕ → ℕ
-blocks_taken version bytes = if (version == 2) && nat_lt SLOT_BLOCKS (blocks_needed bytes) then blocks_needed bytes + 1 else blocks_needed bytes
+blocks_taken version bytes = blocks_needed bytes + index_blocks version (blocks_needed bytes)
 
 -- the blocks that the files take
 abbrev pub used_blocks : State → ℕ
@@ -131,7 +140,7 @@ pub record FilesAreFormed (s : State) : Type 0 where
   pub assigned : IsTrue (list_all (λ (file : File). list_all (is_assignable s.declared) file.assigned) s.files)
   pub few_assigned : IsTrue (list_all (λ (file : File). nat_le (length file.assigned) MAX_ASSIGNED) s.files)
   pub few_words : IsTrue (list_all (λ (file : File). nat_le (length (description s file)) MAX_DESCRIPTION) s.files)
-  pub short : IsTrue (list_all (λ (file : File). nat_le (length file.bytes) (file_limit s.limits.version)) s.files)
+  pub short : IsTrue (list_all (λ (file : File). nat_le (length file.bytes) (file_limit s.limits)) s.files)
 
 -- what every command keeps
 pub record WellFormed (s : State) : Type 0 where

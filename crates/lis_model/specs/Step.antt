@@ -99,7 +99,7 @@ abbrev pub free_blocks : State → ℕ
 free_blocks s = s.limits.blocks - used_blocks s
 
 abbrev pub exceeds_file : State → ℕ → Bool
-exceeds_file s size = nat_lt (file_limit s.limits.version) size
+exceeds_file s size = nat_lt (file_limit s.limits) size
 
 -- a file of that name is in the extension of the place
 abbrev pub is_here : Situation → List ℕ → Bool
@@ -222,9 +222,9 @@ add_with now words file size =
 abbrev pub add : Situation → List ℕ → List (List ℕ) → Payload → Outcome
 add now name words payload = add_with now words (new_file name (assigned_at now.place words) payload.bytes) payload.size
 
--- Version 1 may write a file's bytes over its old blocks; version 2 keeps these until the command is done.
+-- Version 1 may write a file's bytes over its old blocks; later versions keep these until the command is done.
 abbrev pub blocks_for : State → File → ℕ
-blocks_for s old = if s.limits.version == 2 then free_blocks s else free_blocks s + blocks_taken s.limits.version (length old.bytes)
+blocks_for s old = if s.limits.version == 1 then free_blocks s + blocks_taken s.limits.version (length old.bytes) else free_blocks s
 
 abbrev pub write_checks : Situation → File → State → ℕ → List (Bool × Refusal)
 write_checks now old made size =

@@ -1,14 +1,18 @@
 //! The limits of a state.
 
 ghost use Rattle.std.specs.Prelude.{◌≡◌, ◌<◌, ◌≤◌, IsTrue};
-ghost use Rattle.lis_model.specs.Ranges.{is_files_limit, is_props_limit, is_blocks_limit, is_version, are_in_range};
+ghost use Rattle.lis_model.specs.Ranges.{most_files, most_props, most_blocks, is_files_limit, is_props_limit, is_blocks_limit, is_version, are_stored};
+ghost use Rattle.lis_model.specs.State.{file_limit, blocks_taken};
 ghost use Rattle.lis_model.specs.Image.{image_blocks};
 
 use lis_limits::{
-    AXIOMS_PER_BLOCK, BLOCK_BITS, MAX_BLOCKS, MAX_IMAGE_BLOCKS, MAX_PROPS, PROPERTIES_START,
+    AXIOMS_PER_BLOCK, BLOCK_BITS, BLOCK_LEN, MAX_BLOCKS, MAX_FILE, MAX_FILES, MAX_IMAGE_BLOCKS,
+    MAX_LARGE_FILE, MAX_PROPS, NUMBERS_PER_INDEX, PROPERTIES_START, SLOT_BLOCKS, V3_MAX_BLOCKS,
+    V3_MAX_FILE, V3_MAX_FILES, V3_MAX_PROPS,
 };
-/// How much a state may hold. In range are: files a power of two from 64 to 4,096, properties a multiple of 64
-/// from 64 to 8,192, 1 to 32,768 data blocks of 4,096 bytes, and the versions 1 and 2.
+
+/// How much a state may hold. Files are a power of two from 64 on, and properties a multiple of 64. In versions 1 and 2 they are at most
+/// 4,096 files, 8,192 properties and 32,768 data blocks of 4,096 bytes; in version 3 at most 262,144, 1,048,576 and 16,777,216.
 #[derive(Clone, Copy, Debug, PartialEq, Eq)]
 pub struct Limits {
     /// The most files.
@@ -17,47 +21,108 @@ pub struct Limits {
     pub props: u32,
     /// The data blocks.
     pub blocks: u32,
-    /// How large a file may be: 65,536 bytes in version 1, and 1,048,576 in version 2.
+    /// 1, 2 or 3. A file may have 65,536 bytes in version 1, 1,048,576 in version 2, and in version 3 as many as the data blocks have, up
+    /// to 67,108,864.
     pub version: u32,
 }
 
-/// Whether this number of files is in range.
-pub fn is_files_limit(files: u64) -> bool
-    ensures { result ≡ is_files_limit files }
+fn most_files(version: u32) -> u64
+    ensures { result ≡ most_files version }
 {
-    files == 64
+    if version == 3 {
+        u64::from(V3_MAX_FILES)
+    } else {
+        u64::from(MAX_FILES)
+    }
+}
+
+fn most_props(version: u32) -> u64
+    ensures { result ≡ most_props version }
+{
+    if version == 3 {
+        u64::from(V3_MAX_PROPS)
+    } else {
+        u64::from(MAX_PROPS)
+    }
+}
+
+fn most_blocks(version: u32) -> u64
+    ensures { result ≡ most_blocks version }
+{
+    if version == 3 {
+        u64::from(V3_MAX_BLOCKS)
+    } else {
+        u64::from(MAX_BLOCKS)
+    }
+}
+
+/// Whether this number of files is in range.
+pub fn is_files_limit(version: u32, files: u64) -> bool
+    ensures { result ≡ is_files_limit version files }
+{
+    let is_power = files == 64
         || files == 128
         || files == 256
         || files == 512
         || files == 1_024
         || files == 2_048
         || files == 4_096
+        || files == 8_192
+        || files == 16_384
+        || files == 32_768
+        || files == 65_536
+        || files == 131_072
+        || files == 262_144;
+    is_power && files <= most_files(version)
 }
 
 /// Whether this number of properties is in range.
-pub fn is_props_limit(props: u64) -> bool
-    ensures { result ≡ is_props_limit props }
+pub fn is_props_limit(version: u32, props: u64) -> bool
+    ensures { result ≡ is_props_limit version props }
 {
-    64 <= props && props <= u64::from(MAX_PROPS) && props % 64 == 0
+    64 <= props && props <= most_props(version) && props % 64 == 0
 }
 
 /// Whether this number of data blocks is in range.
-pub fn is_blocks_limit(blocks: u64) -> bool
-    ensures { result ≡ is_blocks_limit blocks }
+pub fn is_blocks_limit(version: u32, blocks: u64) -> bool
+    ensures { result ≡ is_blocks_limit version blocks }
 {
-    1 <= blocks && blocks <= u64::from(MAX_BLOCKS)
+    1 <= blocks && blocks <= most_blocks(version)
 }
 
 /// Whether there is such a version.
-pub fn is_version(version: u64) -> bool
+pub fn is_version(version: u32) -> bool
     ensures { result ≡ is_version version }
 {
-    version == 1 || version == 2
+    1 <= version && version <= 3
 }
 
-/// How many blocks of 4,096 bytes an image of these limits has: at most 34,771.
+/// How many bytes a file may have.
+pub fn file_limit(limits: &Limits) -> u64
+    ensures { result ≡ file_limit limits.now }
+{
+    match limits.version {
+        1 => u64::from(MAX_FILE),
+        2 => u64::from(MAX_LARGE_FILE),
+        _ => u64::from(V3_MAX_FILE).min(u64::from(limits.blocks) * BLOCK_LEN as u64),
+    }
+}
+
+/// How many data blocks this many bytes take, those with the numbers of the others included.
+pub fn blocks_taken(version: u32, bytes: u64) -> u64
+    ensures { result ≡ blocks_taken version bytes }
+{
+    let needed = bytes.div_ceil(BLOCK_LEN as u64);
+    if version == 1 || needed <= u64::from(SLOT_BLOCKS) {
+        return needed;
+    }
+    needed + needed.div_ceil(u64::from(NUMBERS_PER_INDEX))
+}
+
+/// How many blocks of 4,096 bytes an image of version 1 or 2 with these limits has: at most 34,771.
+#[tactic(auto, using(crate::proofs::Stored::few_limits))]
 pub fn image_blocks(limits: &Limits) -> u32
-    requires { IsTrue (are_in_range limits.now) }
+    requires { IsTrue (are_stored limits.now) }
     ensures blocks { result ≡ image_blocks limits.now }
     ensures few { result ≤ MAX_IMAGE_BLOCKS }
 {
