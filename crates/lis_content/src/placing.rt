@@ -8,7 +8,7 @@ ghost use Rattle.lis_ports.specs.Calls.{DiskFaultEnds, UsesDisk};
 ghost use Rattle.lis_journal.specs.Images.{JournalIsUsable};
 ghost use Rattle.lis_model.specs.State.{blocks_needed, blocks_taken};
 ghost use Rattle.lis_blockmap.specs.Bitmap.{free_count, is_taken};
-ghost use Rattle.lis_model.specs.Sets.{are_short};
+ghost use Rattle.lis_model.specs.Sets.{fit};
 ghost use Rattle.lis_content.specs.Placing.{AreUnstaged, IsLaid, IsPlaced, IsTornOff, IsUnplaced, HasPlaceCause, TakesRow, RowOf, RowTorn, OnePlaced};
 ghost use Rattle.lis_content.specs.declared.fault.PutFault.TheVariants.{NoSpace};
 ghost use Rattle.lis_journal.specs.Record.{homes_start};
@@ -156,7 +156,7 @@ fn place_bytes<D: Disk>(
     ensures ended { MatchResult result
         (λ blocks. IsLaid base bytes.now map.old map.new journal.old journal.new (D.meaning disk.old) (D.meaning disk.new) blocks.items)
         (λ _. IsTornOff base map.old map.new journal.old journal.new (D.meaning disk.old) (D.meaning disk.new)) }
-    ensures short { IfOk result (λ blocks. IsTrue (are_short blocks.items)) }
+    ensures short { IfOk result (λ blocks. IsTrue (fit 2 blocks.items)) }
     ensures disk { UsesDisk (D.meaning disk.old) (D.meaning disk.new) result }
 {
     let mut taken = ArrayVec::new();

@@ -31,7 +31,7 @@ use Rattle.lis_kept.proofs.InArea.{few_blocks}
 use Rattle.lis_kept.proofs.Formed.{held_files, record_parts}
 use Rattle.lis_kept.proofs.Marking.{block_marked}
 use Rattle.lis_kept.proofs.Contents.{slot_blocks_counted}
-use Rattle.lis_model.specs.Sets.{has_number, are_short}
+use Rattle.lis_model.specs.Sets.{has_number, fit}
 use Rattle.lis_journal.specs.Journal.{shape_of}
 
 -- ---- other blocks are taken, over what memory kept
@@ -64,17 +64,17 @@ module _ (p : Metadata) (t : Taxonomy) (held : AreHeld p t) (numbers : List ℕ)
   free_below : list_all (λ n. nat_lt n p.limits.blocks) numbers ≡ true
   free_below = ap (λ m. are_below m numbers) (sym held.sound.blocks) ∙ below_from_free p.taken numbers free
 
-  free_short : are_short numbers ≡ true
+  free_short : fit 2 numbers ≡ true
   free_short = search (rules, all_from, lt-ltb, ltb-true, all_among, free_below, few_blocks)
 
-  free_in_form : (size : ℕ) → size ≤ file_limit p.limits.version → length numbers ≡ slot_count size → are_distinct numbers ≡ true → are_blocks p.limits.version size numbers ≡ true
+  free_in_form : (size : ℕ) → size ≤ file_limit p.limits → length numbers ≡ slot_count size → are_distinct numbers ≡ true → are_blocks p.limits.version size numbers ≡ true
   free_in_form size few counted apart = search (rules, slot_blocks_counted, and_from, eq-eqb, free_short)
 
 -- ---- a content that is placed
 placed_fills : (p : Metadata) (taken : List Bool) (old : Held) (before after : Meaning) (blocks : List ℕ) → Places (data_start p.limits) p.taken taken old before after blocks → Fills blocks p old before after
 placed_fills p taken old before after blocks places = assumption
 
-module _ (p : Metadata) (t : Taxonomy) (held : AreHeld p t) (bytes numbers : List ℕ) (taken : List Bool) (old new : Held) (before after : Meaning) (few : length bytes ≤ file_limit p.limits.version)
+module _ (p : Metadata) (t : Taxonomy) (held : AreHeld p t) (bytes numbers : List ℕ) (taken : List Bool) (old new : Held) (before after : Meaning) (few : length bytes ≤ file_limit p.limits)
     (unstaged : old.staged ≡ []) (large : is_large (length bytes) ≡ true) (placed : IsPlaced (data_start p.limits) bytes p.taken taken old new before after numbers) where
   slot_apart : are_distinct numbers ≡ true
   slot_apart = search (rules, cond-true, distinct_behind)
@@ -117,7 +117,7 @@ module _ (p : Metadata) (t : Taxonomy) (held : AreHeld p t) (bytes numbers : Lis
       free = slot_were_free (data_start p.limits) bytes p.taken taken old new numbers placed
 
 -- ---- a content that is staged
-module _ (p : Metadata) (t : Taxonomy) (held : AreHeld p t) (bytes numbers : List ℕ) (taken : List Bool) (old new : Held) (m : Meaning) (few : length bytes ≤ file_limit p.limits.version)
+module _ (p : Metadata) (t : Taxonomy) (held : AreHeld p t) (bytes numbers : List ℕ) (taken : List Bool) (old new : Held) (m : Meaning) (few : length bytes ≤ file_limit p.limits)
     (small : is_large (length bytes) ≡ false) (unplaced : old.placed ≡ []) (put : IsPut (data_start p.limits) [] bytes p.taken taken old new numbers) where
   not_large : is_large (length bytes) ≡ true → ⊥
   not_large large = let e : true ≡ false = sym large ∙ small in cc
@@ -176,7 +176,7 @@ taken_counted version size few = search (rules, cond-false, small_size)
 
 -- what a put requires
 pub record MayPut (k : Metadata) (bytes : List ℕ) (old : Held) : Type 0 where
-  pub short : length bytes ≤ file_limit k.limits.version
+  pub short : length bytes ≤ file_limit k.limits
   pub enough : blocks_taken k.limits.version (length bytes) ≤ free_count k.taken
   pub unplaced : old.placed ≡ []
   pub unstaged : is_large (length bytes) ≡ true → old.staged ≡ []
@@ -246,7 +246,7 @@ ended_err P Q put fault is ended = subst (λ r. MatchResult r P Q) is ended
 
 -- ---- blocks that are freed
 -- the homes of the blocks that a slot numbers are blocks of the image
-pub slot_within : (k : Metadata) (rec : FileRecord) (base blocks : ℕ) (numbers : List ℕ) → is_sound_record k.limits.version k.dict k.limits.blocks rec ≡ true → base ≡ data_start k.limits
+pub slot_within : (k : Metadata) (rec : FileRecord) (base blocks : ℕ) (numbers : List ℕ) → is_sound_record k.limits k.dict k.limits.blocks rec ≡ true → base ≡ data_start k.limits
     → blocks ≡ image_blocks k.limits → numbers ≡ rec.blocks → are_within base blocks numbers ≡ true
 slot_within k rec base blocks numbers sound from image are = search (rules, within_if_below, are_below, record_parts)
 

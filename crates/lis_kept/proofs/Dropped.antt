@@ -3,7 +3,7 @@ use Rattle.std.proofs.Common.{arith}
 use Rattle.lis_kept.proofs.Common.{rules, ◌≡◌, ◌⊎◌, inl, inr, Option, refl, sym, ap, ◌∙◌, subst, ℕ, ◌<◌, ◌==◌, if◌then◌else◌, ◌&&◌, not, Bool, true, List, length, set, Some, None, is_some, IsSome, length-set, cases_eq, eqb-true, ne_eqb, and_parts, same_Some, Among, are_distinct, Catalog, Filed, IsCatalog, rec_at, slot_of, without_slot, FileRecord, slot_blocks, Dict, word_of, Taxonomy, same_word, same_word_decides, has, both_ways, same_tests}
 use Rattle.std.proofs.lemmas.Bool.{eq-eqb}
 use Rattle.lis_catalog.proofs.Laws.{rec_at-without_slot, slot_is_below, slot_of-rec_at}
-use Rattle.lis_model.specs.Sets.{are_short}
+use Rattle.lis_model.specs.Sets.{fit}
 use Rattle.lis_fields.proofs.Parts.{IsFileRecord, record_tests}
 use Rattle.lis_model.specs.Changes.{file_removed}
 use Rattle.lis_laws.proofs.Locals.{filter_same}
@@ -28,7 +28,7 @@ record_in_form version dict blocks rec sound =
 pub blocks_apart : (k : Metadata) → AreSound k → (slot : ℕ) (rec : FileRecord) → rec_at k.catalog slot ≡ Some rec → are_distinct rec.blocks ≡ true
 blocks_apart k sound slot rec there =
     let form = record_in_form k.limits.version k.dict k.limits.blocks rec (sound.records slot rec there) in
-    (and_parts ((length rec.blocks == slot_blocks k.limits.version rec.size) && are_short rec.blocks) (are_distinct rec.blocks) form.blocks).1
+    (and_parts ((length rec.blocks == slot_blocks k.limits.version rec.size) && fit 2 rec.blocks) (are_distinct rec.blocks) form.blocks).1
 
 pub file_slot_below : (k : Metadata) → AreSound k → (slot : ℕ) (rec : FileRecord) → rec_at k.catalog slot ≡ Some rec → slot < k.limits.files
 file_slot_below k sound slot rec there = omega (arith, slot_is_below k.catalog slot sound.catalog (ap is_some there), sound.slots)
@@ -40,7 +40,7 @@ pub record OneFile (p : Metadata) (slot : ℕ) (c : Catalog) (marks : List Bool)
   pub files : c.files ≡ p.catalog.files
   pub catalog : IsCatalog c
   pub others : (n : ℕ) → (n ≡ slot → ⊥) → rec_at c n ≡ rec_at p.catalog n
-  pub sound : (rec : FileRecord) → rec_at c slot ≡ Some rec → is_sound_record p.limits.version p.dict p.limits.blocks rec ≡ true
+  pub sound : (rec : FileRecord) → rec_at c slot ≡ Some rec → is_sound_record p.limits p.dict p.limits.blocks rec ≡ true
   pub named : IsSome (rec_at c slot) → (n : ℕ) → has p.ext n slot ≡ true → IsSome (word_of p.dict n)
   pub marked : marks ≡ set p.marks (block_of p.limits Files slot) true
 
@@ -61,7 +61,7 @@ module _ (p : Metadata) (t : Taxonomy) (held : AreHeld p t) {slot : ℕ} {c : Ca
     as_many = ap length one.marked ∙ length-set p.marks (block_of p.limits Files slot) true;
   })
     where
-      records_at : (n : ℕ) (rec : FileRecord) → (n ≡ slot) ⊎ (n ≡ slot → ⊥) → rec_at c n ≡ Some rec → is_sound_record p.limits.version p.dict p.limits.blocks rec ≡ true
+      records_at : (n : ℕ) (rec : FileRecord) → (n ≡ slot) ⊎ (n ≡ slot → ⊥) → rec_at c n ≡ Some rec → is_sound_record p.limits p.dict p.limits.blocks rec ≡ true
       records_at n rec (inl same) is = one.sound rec (ap (rec_at c) (sym same) ∙ is)
       records_at n rec (inr differ) is = held.sound.records n rec (sym (one.others n differ) ∙ is)
 

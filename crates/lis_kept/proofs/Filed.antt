@@ -56,7 +56,7 @@ pub record MayFile (p : Metadata) (slot : ℕ) (rec : FileRecord) : Type 0 where
   pub below : slot < p.limits.files
   pub free : rec_at p.catalog slot ≡ None
   pub absent : slot_of p.catalog rec.name ≡ None
-  pub sound : is_sound_record p.limits.version p.dict p.limits.blocks rec ≡ true
+  pub sound : is_sound_record p.limits p.dict p.limits.blocks rec ≡ true
   pub described : (n : ℕ) → has p.ext n slot ≡ true → IsSome (word_of p.dict n)
 
 -- over what memory kept
@@ -85,7 +85,7 @@ module _ (k p : Metadata) (t : Taxonomy) (slot : ℕ) (rec : FileRecord) (c : Ca
         (catalog_then p.catalog held.sound.catalog slot rec may.absent (record_named p.limits.version p.dict p.limits.blocks rec may.sound) below_files may.free
         (room_for_file p.catalog held.sound.catalog slot rec may.absent below_files may.free));
     others = λ n differ. rec_then n ∙ ap (λ b. if b then Some rec else rec_at p.catalog n) (ne_eqb slot n (λ e. differ (sym e)));
-    sound = λ r is_r. subst (λ (x : FileRecord). is_sound_record p.limits.version p.dict p.limits.blocks x ≡ true) (same_Some rec r (sym rec_here ∙ is_r)) may.sound;
+    sound = λ r is_r. subst (λ (x : FileRecord). is_sound_record p.limits p.dict p.limits.blocks x ≡ true) (same_Some rec r (sym rec_here ∙ is_r)) may.sound;
     named = λ some. may.described;
     marked = marked;
   }

@@ -56,10 +56,10 @@ module _ (k : Metadata) (sound : AreSound k) where
       by None is = ap is_axiom (sym (unwrap_or-slice_get k.axioms n FreeAxiom) ∙ ap (λ o. unwrap_or o FreeAxiom) is)
       by (Some a) is = ap is_axiom (get_or_from_slice_get k.axioms n a FreeAxiom is) ∙ slot a is
 
-  pub records_formed : (n : ℕ) → is_file k.limits.version (record_at k.catalog n) ≡ true
+  pub records_formed : (n : ℕ) → is_file k.limits (record_at k.catalog n) ≡ true
   records_formed n = by (rec_at k.catalog n) refl
     where
-      by : (o : Option FileRecord) → rec_at k.catalog n ≡ o → is_file k.limits.version (file_by o) ≡ true
+      by : (o : Option FileRecord) → rec_at k.catalog n ≡ o → is_file k.limits (file_by o) ≡ true
       by None is = refl
       by (Some rec) is = (record_parts k.limits.version k.dict k.limits.blocks rec (sound.records n rec is)).0
 
@@ -96,7 +96,7 @@ none_past e within n slot past = false_from_ne_true (has e n slot) (λ has_it. l
 pub record FilesHold (p : Metadata) (catalog : Catalog) (taken : List Bool) (ext : Ext) (marks : List Bool) : Type 0 where
   pub slots : catalog.files ≡ p.catalog.files
   pub catalog_is : IsCatalog catalog
-  pub records : (slot : ℕ) (rec : FileRecord) → rec_at catalog slot ≡ Some rec → is_sound_record p.limits.version p.dict p.limits.blocks rec ≡ true
+  pub records : (slot : ℕ) (rec : FileRecord) → rec_at catalog slot ≡ Some rec → is_sound_record p.limits p.dict p.limits.blocks rec ≡ true
   pub blocks : length taken ≡ length p.taken
   pub rows : ext.props ≡ p.ext.props
   pub files : length ext.sets ≡ length p.ext.sets

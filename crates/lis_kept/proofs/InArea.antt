@@ -1,6 +1,6 @@
 -- In which blocks an area is, and its slots in a block.
 use Rattle.std.proofs.Common.{arith}
-use Rattle.lis_kept.proofs.Common.{rules, ◌≡◌, ℕ, ◌+◌, ◌*◌, ◌-◌, ◌/◌, ◌%◌, ◌<◌, ◌≤◌, ◌==◌, ◌||◌, Bool, true, List, IsTrue, sym, subst, inl, inr, and_parts, or_cases, eqb-true, Limits, are_in_range, bitmap_start, data_start}
+use Rattle.lis_kept.proofs.Common.{rules, ◌≡◌, ℕ, ◌+◌, ◌*◌, ◌-◌, ◌/◌, ◌%◌, ◌<◌, ◌≤◌, ◌==◌, ◌||◌, Bool, true, List, IsTrue, sym, subst, inl, inr, and_parts, or_cases, eqb-true, Limits, are_stored, bitmap_start, data_start}
 use Rattle.std.proofs.Math.Nat.{div-lt_iff_lt-mul, div-add-mod}
 use Rattle.std.proofs.lemmas.Bool.Decides.{nat_tests}
 use Rattle.lis_model.specs.Ranges.{is_files_limit, is_props_limit, is_blocks_limit}
@@ -12,22 +12,22 @@ use Rattle.lis_kept.specs.Areas.Area.{Properties, Axioms, Files, Rows, Bitmap}
 use Rattle.lis_kept.specs.Inside.{bytes_in, IsBlock}
 
 -- ---- limits in range
-limit_parts : (limits : Limits) → IsTrue (are_in_range limits) → (is_files_limit limits.files ≡ true) × (is_props_limit limits.props ≡ true) × (is_blocks_limit limits.blocks ≡ true)
+limit_parts : (limits : Limits) → IsTrue (are_stored limits) → (is_files_limit limits.files ≡ true) × (is_props_limit limits.props ≡ true) × (is_blocks_limit limits.blocks ≡ true)
 limit_parts limits range = search (rules, and_parts)
 
-pub files_range : (limits : Limits) → IsTrue (are_in_range limits) → is_files_limit limits.files ≡ true
+pub files_range : (limits : Limits) → IsTrue (are_stored limits) → is_files_limit limits.files ≡ true
 files_range limits range = (limit_parts limits range).0
 
-pub props_range : (limits : Limits) → IsTrue (are_in_range limits) → is_props_limit limits.props ≡ true
+pub props_range : (limits : Limits) → IsTrue (are_stored limits) → is_props_limit limits.props ≡ true
 props_range limits range = (limit_parts limits range).1
 
 files_whole : (n : ℕ) → is_files_limit n ≡ true → n % 16 ≡ 0
 files_whole n is = grind (arith, nat_tests)
 
-pub whole_files : (limits : Limits) → IsTrue (are_in_range limits) → limits.files % 16 ≡ 0
+pub whole_files : (limits : Limits) → IsTrue (are_stored limits) → limits.files % 16 ≡ 0
 whole_files limits range = files_whole limits.files (files_range limits range)
 
-pub few_files : (limits : Limits) → IsTrue (are_in_range limits) → limits.files ≤ 4096
+pub few_files : (limits : Limits) → IsTrue (are_stored limits) → limits.files ≤ 4096
 few_files limits range = files_small limits.files (files_range limits range)
 
 blocks_few : (n : ℕ) → is_blocks_limit n ≡ true → n ≤ 32768
@@ -39,19 +39,19 @@ props_whole n is = grind (arith, nat_tests)
 props_few : (n : ℕ) → is_props_limit n ≡ true → n ≤ 8192
 props_few n is = grind (arith, nat_tests)
 
-pub few_blocks : (limits : Limits) → IsTrue (are_in_range limits) → limits.blocks ≤ 32768
+pub few_blocks : (limits : Limits) → IsTrue (are_stored limits) → limits.blocks ≤ 32768
 few_blocks limits range = blocks_few limits.blocks (limit_parts limits range).2
 
-pub whole_properties : (limits : Limits) → IsTrue (are_in_range limits) → limits.props % 64 ≡ 0
+pub whole_properties : (limits : Limits) → IsTrue (are_stored limits) → limits.props % 64 ≡ 0
 whole_properties limits range = props_whole limits.props (props_range limits range)
 
-pub few_properties : (limits : Limits) → IsTrue (are_in_range limits) → limits.props ≤ 8192
+pub few_properties : (limits : Limits) → IsTrue (are_stored limits) → limits.props ≤ 8192
 few_properties limits range = props_few limits.props (props_range limits range)
 
 props_some : (n : ℕ) → is_props_limit n ≡ true → 64 ≤ n
 props_some n is = grind (arith, nat_tests)
 
-pub some_properties : (limits : Limits) → IsTrue (are_in_range limits) → 64 ≤ limits.props
+pub some_properties : (limits : Limits) → IsTrue (are_stored limits) → 64 ≤ limits.props
 some_properties limits range = props_some limits.props (props_range limits range)
 
 -- what holds of each limit of files
@@ -61,14 +61,14 @@ either P n m rest is others here = elim (or_cases rest (n == m) is) [ inl r ↦ 
 pub each_files_limit : (P : ℕ → Type 0) (n : ℕ) → is_files_limit n ≡ true → P 64 → P 128 → P 256 → P 512 → P 1024 → P 2048 → P 4096 → P n
 each_files_limit P n is p6 p7 p8 p9 p10 p11 p12 = search (rules, either, eqb-true)
 
-pub some_rows : (limits : Limits) → IsTrue (are_in_range limits) → 0 < 4096 / (limits.files / 8)
+pub some_rows : (limits : Limits) → IsTrue (are_stored limits) → 0 < 4096 / (limits.files / 8)
 some_rows limits range = search (rules, each_files_limit, files_range)
 
 -- each number below the limit has a row
-pub rows_counted : (limits : Limits) → IsTrue (are_in_range limits) → limits.props ≤ (row_slots limits).count
+pub rows_counted : (limits : Limits) → IsTrue (are_stored limits) → limits.props ≤ (row_slots limits).count
 rows_counted limits range = search (rules, each_files_limit, files_range)
 
-row_within : (limits : Limits) (m : ℕ) → IsTrue (are_in_range limits) → m < (row_slots limits).count → m / (4096 / (limits.files / 8)) < (limits.props * limits.files + 32767) / 32768
+row_within : (limits : Limits) (m : ℕ) → IsTrue (are_stored limits) → m < (row_slots limits).count → m / (4096 / (limits.files / 8)) < (limits.props * limits.files + 32767) / 32768
 row_within limits m range lt =
     (div-lt_iff_lt-mul {k = 4096 / (limits.files / 8)} {x = m} {y = (limits.props * limits.files + 32767) / 32768} (some_rows limits range)).1
     (omega (arith, lt))
@@ -83,12 +83,12 @@ end_of limits Rows = bitmap_start limits
 end_of limits Bitmap = data_start limits
 
 -- a slot's block is in its area
-pub in_area : (limits : Limits) → IsTrue (are_in_range limits) → (area : Area) (m : ℕ) → m < (slots_of limits area).count
+pub in_area : (limits : Limits) → IsTrue (are_stored limits) → (area : Area) (m : ℕ) → m < (slots_of limits area).count
     → ((slots_of limits area).first ≤ block_of limits area m) × (block_of limits area m < end_of limits area)
 in_area limits range area m lt = search (rules, whole_properties, whole_files, row_within)
 
 -- all areas are before the data blocks and after the records
-pub among_slots : (limits : Limits) → IsTrue (are_in_range limits) → (area : Area) (m : ℕ) → m < (slots_of limits area).count
+pub among_slots : (limits : Limits) → IsTrue (are_stored limits) → (area : Area) (m : ℕ) → m < (slots_of limits area).count
     → (578 ≤ block_of limits area m) × (block_of limits area m < data_start limits)
 among_slots limits range area m lt = search (rules, in_area)
 
@@ -97,7 +97,7 @@ same_area : (limits : Limits) (n : ℕ) (a b : Area) → (slots_of limits a).fir
 same_area limits n a b from to from' to' = search (rules)
 
 -- a block that spells the slots of its area
-pub one_area : (k : Metadata) → IsTrue (are_in_range k.limits) → (area : Area) (n : ℕ) (block : List ℕ) → (slots_of k.limits area).first ≤ n → n < end_of k.limits area
+pub one_area : (k : Metadata) → IsTrue (are_stored k.limits) → (area : Area) (n : ℕ) (block : List ℕ) → (slots_of k.limits area).first ≤ n → n < end_of k.limits area
     → ((m : ℕ) → m < (slots_of k.limits area).count → block_of k.limits area m ≡ n → bytes_in k.limits area m block ≡ spelled k area m) → IsBlock k n block
 one_area k range area n block from to is = search (rules, in_area, same_area)
 

@@ -48,7 +48,7 @@ block_of limits area n = home (slots_of limits area) n
 abbrev pub spelled : Metadata → Area → ℕ → List ℕ
 spelled k Properties n = prop_bytes (property_at k.dict k.declared n)
 spelled k Axioms n = axiom_bytes (axiom_at k.axioms n)
-spelled k Files n = file_bytes (record_at k.catalog n)
+spelled k Files n = file_bytes k.limits.version (record_at k.catalog n)
 spelled k Rows n = row_bytes k.ext n
 spelled k Bitmap n = bitmap_bytes k.taken
 

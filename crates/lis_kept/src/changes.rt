@@ -8,7 +8,7 @@ ghost use Rattle.lis_catalog.specs.Catalog.{rec_at, slot_of};
 ghost use Rattle.lis_dict.specs.Dict.{word_of};
 ghost use Rattle.lis_ext.specs.Ext.{has};
 ghost use Rattle.lis_model.specs.Image.{data_start};
-ghost use Rattle.lis_model.specs.Ranges.{are_in_range};
+ghost use Rattle.lis_model.specs.Ranges.{are_stored};
 ghost use Rattle.lis_kept.specs.Areas.{block_of};
 ghost use Rattle.lis_kept.specs.Areas.Area.{Files as FileArea, Rows};
 ghost use Rattle.lis_kept.specs.Sound.{AreSound, is_sound_record};
@@ -26,7 +26,7 @@ use lis_model::limits::Limits;
 
 // Marks the blocks of the rows that changed.
 fn mark_rows(ext: &Ext, limits: &Limits, marks: &mut Flags)
-    requires range { IsTrue (are_in_range limits.now) }
+    requires range { IsTrue (are_stored limits.now) }
     requires long { data_start limits.now ≤ length marks.old }
     requires few { length ext.now.marks ≤ limits.now.props }
     requires below { IsTrue (list_all (λ n. nat_lt n limits.now.props) ext.now.marks) }
@@ -44,7 +44,7 @@ fn mark_rows(ext: &Ext, limits: &Limits, marks: &mut Flags)
 
 // Marks the block of a file slot.
 fn mark_file(marks: &mut Flags, limits: &Limits, slot: u32)
-    requires range { IsTrue (are_in_range limits.now) }
+    requires range { IsTrue (are_stored limits.now) }
     requires slot { slot < limits.now.files }
     requires long { data_start limits.now ≤ length marks.old }
     ensures { marks.new ≡ slice_set marks.old (block_of limits.now FileArea slot) true }
@@ -86,7 +86,7 @@ impl Metadata {
         requires free { rec_at self.old.catalog slot ≡ None }
         requires described { (n : ℕ) → has self.old.ext n slot ≡ true → IsSome (word_of self.old.dict n) }
         requires new { slot_of self.old.catalog rec.name ≡ None }
-        requires sound { IsTrue (is_sound_record self.old.limits.version self.old.dict self.old.limits.blocks rec) }
+        requires sound { IsTrue (is_sound_record self.old.limits self.old.dict self.old.limits.blocks rec) }
         ensures files { Files slot rec self.old self.new }
         ensures sound { AreSound self.new }
     {

@@ -2,7 +2,7 @@
 
 ghost use Rattle.std.specs.Prelude.{◌≡◌, ◌≤◌, IsTrue};
 ghost use Rattle.lis_kept.specs.Image.{record_blocks, image_layout, image_capacity};
-ghost use Rattle.lis_model.specs.Ranges.{are_in_range};
+ghost use Rattle.lis_model.specs.Ranges.{are_stored};
 ghost use Rattle.lis_model.specs.Image.{axioms_start, files_start, rows_start, bitmap_start, data_start};
 
 use lis_journal::{Capacity, Layout};
@@ -20,7 +20,7 @@ fn record_blocks(_limits: &Limits) -> u32
 
 /// How an image of these limits is divided.
 pub fn image_layout(limits: &Limits) -> Layout
-    requires { IsTrue (are_in_range limits.now) }
+    requires { IsTrue (are_stored limits.now) }
     ensures { result ≡ image_layout limits.now }
 {
     Layout {
@@ -41,7 +41,7 @@ pub fn image_capacity(_limits: &Limits) -> Capacity
 
 /// The first block of axiom slots.
 pub fn axioms_start(limits: &Limits) -> u32
-    requires { IsTrue (are_in_range limits.now) }
+    requires { IsTrue (are_stored limits.now) }
     ensures { result ≡ axioms_start limits.now }
 {
     PROPERTIES_START + limits.props / 64
@@ -49,7 +49,7 @@ pub fn axioms_start(limits: &Limits) -> u32
 
 /// The first block of file slots.
 pub fn files_start(limits: &Limits) -> u32
-    requires { IsTrue (are_in_range limits.now) }
+    requires { IsTrue (are_stored limits.now) }
     ensures { result ≡ files_start limits.now }
 {
     axioms_start(limits) + limits.props.div_ceil(AXIOMS_PER_BLOCK as u32)
@@ -57,7 +57,7 @@ pub fn files_start(limits: &Limits) -> u32
 
 /// The first block of extension rows.
 pub fn rows_start(limits: &Limits) -> u32
-    requires { IsTrue (are_in_range limits.now) }
+    requires { IsTrue (are_stored limits.now) }
     ensures { result ≡ rows_start limits.now }
 {
     files_start(limits) + limits.files / 16
@@ -65,7 +65,7 @@ pub fn rows_start(limits: &Limits) -> u32
 
 /// The first data block.
 pub fn data_start(limits: &Limits) -> u32
-    requires { IsTrue (are_in_range limits.now) }
+    requires { IsTrue (are_stored limits.now) }
     ensures start { result ≡ data_start limits.now }
     ensures few { result ≤ MAX_IMAGE_BLOCKS }
 {
@@ -74,7 +74,7 @@ pub fn data_start(limits: &Limits) -> u32
 
 /// The block of the bitmap.
 pub fn bitmap_start(limits: &Limits) -> u32
-    requires { IsTrue (are_in_range limits.now) }
+    requires { IsTrue (are_stored limits.now) }
     ensures { result ≡ bitmap_start limits.now }
 {
     data_start(limits) - 1

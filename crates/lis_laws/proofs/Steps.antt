@@ -166,7 +166,7 @@ unaxiom_keeps now pair before =
 -- ---- new files
 -- what a new file needs, if no refusal of its row applies and its bytes are not too many
 new_file_fits : (now : Situation) (name : List ℕ) (words : List (List ℕ)) (bytes : List ℕ) → is_file_name name ≡ true
-    → length bytes ≤ file_limit now.state.limits.version → used_blocks now.state + blocks_taken now.state.limits.version (length bytes) ≤ now.state.limits.blocks
+    → length bytes ≤ file_limit now.state.limits → used_blocks now.state + blocks_taken now.state.limits.version (length bytes) ≤ now.state.limits.blocks
     → NoneStands (create_checks now words (new_file name (assigned_at now.place words) bytes) (file_added now.state (new_file name (assigned_at now.place words) bytes)))
     → FileFits now.state (new_file name (assigned_at now.place words) bytes)
 new_file_fits now name words bytes named short room none = record {
@@ -215,7 +215,7 @@ pub add_fits : (now : Situation) (name : List ℕ) (words : List (List ℕ)) (pa
     → FileFits now.state (new_file name (assigned_at now.place words) payload.bytes) × (has_name now.state.files name ≡ false)
 add_fits now name words payload before named sized none =
     let le = payload_le payload sized in
-    let small : payload.size ≤ file_limit now.state.limits.version = ltb-false _ _ none.0 in
+    let small : payload.size ≤ file_limit now.state.limits = ltb-false _ _ none.0 in
     let taken = taken_le now.state.limits.version (length payload.bytes) payload.size le in
     let parts = none_in_both (create_checks now words file made) ((nat_lt (free_blocks now.state) (blocks_taken now.state.limits.version payload.size), NoSpace) ∷ []) none.1 in
     let space : blocks_taken now.state.limits.version payload.size ≤ free_blocks now.state = ltb-false _ _ parts.1.0 in
@@ -257,7 +257,7 @@ record OldFits (s : State) (old : File) : Type 0 where
   assigned_set : is_rising word_cmp old.assigned ≡ true
   assigned : list_all (is_assignable s.declared) old.assigned ≡ true
   few_assigned : length old.assigned ≤ 16
-  short : length old.bytes ≤ file_limit s.limits.version
+  short : length old.bytes ≤ file_limit s.limits
 
 old_fits : (s : State) → WellFormed s → (old : File) → Among s.files old → OldFits s old
 old_fits s formed old m = record {
@@ -265,7 +265,7 @@ old_fits s formed old m = record {
   assigned_set = all_among (λ (f : File). is_rising word_cmp f.assigned) s.files old formed.files.assigned_sets m;
   assigned = all_among (λ (f : File). list_all (is_assignable s.declared) f.assigned) s.files old formed.files.assigned m;
   few_assigned = leb-true _ _ (all_among (λ (f : File). nat_le (length f.assigned) 16) s.files old formed.files.few_assigned m);
-  short = leb-true _ _ (all_among (λ (f : File). nat_le (length f.bytes) (file_limit s.limits.version)) s.files old formed.files.short m);
+  short = leb-true _ _ (all_among (λ (f : File). nat_le (length f.bytes) (file_limit s.limits)) s.files old formed.files.short m);
 }
 
 few_in_place : (s : State) (old new : File) → exceeds_words (file_replaced s old.name new) ≡ false → has_name (file_removed s old.name).files new.name ≡ false → length (description s new) ≤ 128
@@ -278,7 +278,7 @@ write_replaces now old payload before sized here none =
     let m = here (none.1.0, tt) in
     let held = old_fits now.state before.state old m in
     let le = payload_le payload sized in
-    let small : payload.size ≤ file_limit now.state.limits.version = ltb-false _ _ none.0 in
+    let small : payload.size ≤ file_limit now.state.limits = ltb-false _ _ none.0 in
     let taken = taken_le now.state.limits.version (length payload.bytes) payload.size le in
     let space : blocks_taken now.state.limits.version payload.size ≤ blocks_for now.state old = ltb-false _ _ none.1.1.1.1.0 in
     record {

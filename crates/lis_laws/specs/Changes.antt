@@ -31,7 +31,7 @@ pub record FileFits (s : State) (file : File) : Type 0 where
   pub assigned : IsTrue (list_all (is_assignable s.declared) file.assigned)
   pub few_assigned : length file.assigned ≤ MAX_ASSIGNED
   pub few_words : length (description s file) ≤ MAX_DESCRIPTION
-  pub short : length file.bytes ≤ file_limit s.limits.version
+  pub short : length file.bytes ≤ file_limit s.limits
   pub few_files : length s.files < s.limits.files
   pub few_known : length (known (file_added s file)) ≤ s.limits.props
   pub few_blocks : used_blocks s + blocks_taken s.limits.version (length file.bytes) ≤ s.limits.blocks
@@ -43,7 +43,7 @@ pub record FileReplaces (s : State) (old new : File) : Type 0 where
   pub assigned : IsTrue (list_all (is_assignable s.declared) new.assigned)
   pub few_assigned : length new.assigned ≤ MAX_ASSIGNED
   pub few_words : length (description s new) ≤ MAX_DESCRIPTION
-  pub short : length new.bytes ≤ file_limit s.limits.version
+  pub short : length new.bytes ≤ file_limit s.limits
   pub few_known : length (known (file_replaced s old.name new)) ≤ s.limits.props
   pub few_blocks : used_blocks s + blocks_taken s.limits.version (length new.bytes) ≤ s.limits.blocks + blocks_taken s.limits.version (length old.bytes)
 

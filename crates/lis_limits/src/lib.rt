@@ -70,6 +70,9 @@ pub const AXIOM_LEN: usize = 8;
 /// Bytes of the slot of a file.
 pub const FILE_LEN: usize = 256;
 
+/// Bytes of the set of a file, in version 3.
+pub const SET_LEN: usize = 512;
+
 /// How many axioms have their slots in one block.
 pub const AXIOMS_PER_BLOCK: usize = 512;
 

@@ -1,4 +1,4 @@
--- Sets of words: lists in byte order, without repeats. Lists of numbers: of two bytes each, and without repeats.
+-- Sets of words: lists in byte order, without repeats. Lists of numbers: of some bytes each, and without repeats.
 use Rattle.std.specs.Prelude.{ℕ, ◌==◌, ◌^◌, nat_lt, Bool, true, not, ◌&&◌, List, [], ◌∷◌}
 use Rattle.std.specs.BTreeSet.{insert_key}
 use Rattle.std.specs.List.{list_all, list_any}
@@ -17,9 +17,9 @@ with_words words more = with_more word_cmp words more
 abbrev pub set_of : List (List ℕ) → List (List ℕ)
 set_of words = with_words [] words
 
--- each number is one of two bytes
-abbrev pub are_short : List ℕ → Bool
-are_short ns = list_all (λ n. nat_lt n (2 ^ 16)) ns
+-- each number is one of this many bytes
+abbrev pub fit : ℕ → List ℕ → Bool
+fit width ns = list_all (λ n. nat_lt n (256 ^ width)) ns
 
 -- the number is one of the list
 abbrev pub has_number : List ℕ → ℕ → Bool

@@ -1,6 +1,6 @@
 -- The blocks of a file as they are read: those that its slot lists, and those that its index block lists.
 use Rattle.std.proofs.Common.{rules}
-use Rattle.lis_open.proofs.Common.{◌∙◌, ℕ, List, IsTrue, ◌≡◌, sym, ap, ◌^◌, ◌<◌, ◌≤◌, Bool, Option, Some, None, [], arith, IfSome, subst, true, false, ◌++◌, length, option_map, Meaning, IsSettled, Held, Fits, Slots, slot, PropSlot, FileSlot, prop_once, Limits, are_in_range, image_blocks, few_properties, list_all-append, are_free, are_distinct, is_large, index_bytes, numbers_in, index_home, FileRecord, is_record, data_start, blocks_needed, and_parts, both_ways}
+use Rattle.lis_open.proofs.Common.{◌∙◌, ℕ, List, IsTrue, ◌≡◌, sym, ap, ◌^◌, ◌<◌, ◌≤◌, Bool, Option, Some, None, [], arith, IfSome, subst, true, false, ◌++◌, length, option_map, Meaning, IsSettled, Held, Fits, Slots, slot, PropSlot, FileSlot, prop_once, Limits, are_stored, image_blocks, few_properties, list_all-append, are_free, are_distinct, is_large, index_bytes, numbers_in, index_home, FileRecord, is_record, data_start, blocks_needed, and_parts, both_ways}
 use Rattle.lis_journal.proofs.Fitting.{fits_unchanged}
 use Rattle.lis_open.specs.declared.blocks.LastBlock.{LastBlock}
 use Rattle.lis_ports.specs.Calls.{OnlyReads}
@@ -31,7 +31,7 @@ StillRecalls journal old before last = (kept : ℕ → List ℕ) → Fits journa
 
 -- ---- slots and the values that they spell
 -- the blocks of an image have numbers of 32 bits
-pub few_blocks : (limits : Limits) (blocks : ℕ) → IsTrue (are_in_range limits) → blocks ≡ image_blocks limits → blocks < 2 ^ 32
+pub few_blocks : (limits : Limits) (blocks : ℕ) → IsTrue (are_stored limits) → blocks ≡ image_blocks limits → blocks < 2 ^ 32
 few_blocks limits blocks range is = search (rules, few_files, mul-le-mul_left, few_properties, few_data)
 
 -- what is read of a slot, if nothing is staged

@@ -77,7 +77,7 @@ block_read staged kept home long size at bytes none sized read =
 
 -- the content of a record's file, by all its blocks
 pub content_of_told : (limits : Limits) (rec : FileRecord) (kept : ℕ → List ℕ) (base count : ℕ) (blocks part : List ℕ) → base ≡ data_start limits → count ≡ blocks_needed rec.size
-    → IsTrue (is_record limits.version rec) → part ≡ take count blocks → blocks ≡ blocks_told limits kept rec → content base part rec.size kept ≡ bytes_told limits kept rec
+    → IsTrue (is_record limits rec) → part ≡ take count blocks → blocks ≡ blocks_told limits kept rec → content base part rec.size kept ≡ bytes_told limits kept rec
 content_of_told limits rec kept base count blocks part from needed form is told =
     ap (λ b. content b part rec.size kept) from
     ∙ ap (λ ns. content (data_start limits) ns rec.size kept)

@@ -63,7 +63,7 @@ none_so_far limits words axioms slots at is = search (rules, both_ways, nothing_
 
 -- ---- one file more
 module _ (limits : Limits) (MayBeKept : (ℕ → List ℕ) → Type 0) (words : Words) (axioms : Axioms) (slots next : FileSlots) (number : ℕ) (rec : FileRecord) (first : AreFirstRecords limits words axioms slots number)
-    (lt : number < limits.files) (form : is_record limits.version rec ≡ true) (took : TakesRecord limits MayBeKept words axioms.taxonomy number rec slots next) where
+    (lt : number < limits.files) (form : is_record limits rec ≡ true) (took : TakesRecord limits MayBeKept words axioms.taxonomy number rec slots next) where
   abbrev files : TakenFiles
   files = in_slots slots
 
@@ -117,11 +117,11 @@ module _ (limits : Limits) (MayBeKept : (ℕ → List ℕ) → Type 0) (words : 
   below : are_below limits.blocks rec.blocks ≡ true
   below = free_below limits files.map rec.blocks first.taken.blocks took.usable.own
 
-  sound : is_sound_record limits.version words.dict limits.blocks rec ≡ true
+  sound : is_sound_record limits words.dict limits.blocks rec ≡ true
   sound =
       let named = list_all (λ n. is_some (word_of words.dict n)) rec.tags in
-      and_from (is_record limits.version rec && named) (list_all (λ n. nat_lt n limits.blocks) rec.blocks)
-      (and_from (is_record limits.version rec) named form (all_weaker (is_assignable_number words) (λ n. is_some (word_of words.dict n)) rec.tags (λ n m is. assignable_some words (word_of words.dict n) is) took.given)) below
+      and_from (is_record limits rec && named) (list_all (λ n. nat_lt n limits.blocks) rec.blocks)
+      (and_from (is_record limits rec) named form (all_weaker (is_assignable_number words) (λ n. is_some (word_of words.dict n)) rec.tags (λ n m is. assignable_some words (word_of words.dict n) is) took.given)) below
 
   has_new : HasNumbers words axioms.taxonomy rec its_words numbers
   has_new = record { numbered = described_parts.0; are = refl }
@@ -131,7 +131,7 @@ module _ (limits : Limits) (MayBeKept : (ℕ → List ℕ) → Type 0) (words : 
     within = omega (arith, lt);
     long = ap (length {A = Option FileRecord}) takes.records ∙ (length-set slots.unsorted number (Some rec) ∙ first.long);
     taken = record {
-      records = either (λ slot r. IsTrue (is_sound_record limits.version words.dict limits.blocks r)) sound first.taken.records;
+      records = either (λ slot r. IsTrue (is_sound_record limits words.dict limits.blocks r)) sound first.taken.records;
       given = either (λ slot r. IsTrue (list_all (is_assignable_number words) r.tags)) took.given first.taken.given;
       rest = λ n le. found_old n (λ e. omega arith) ∙ first.taken.rest n (omega arith);
       blocks = ap (length {A = Bool}) takes.map ∙ (length-marked files.map took.blocks ∙ first.taken.blocks);
@@ -153,7 +153,7 @@ module _ (limits : Limits) (MayBeKept : (ℕ → List ℕ) → Type 0) (words : 
       let free = all_among (λ k. nat_lt k (length files.map) && not (is_taken files.map k)) took.blocks n took.usable.free (among_from_number took.blocks n new) in
       not_true (is_taken files.map n) (and_parts (nat_lt n (length files.map)) (not (is_taken files.map n)) free).1
 
-  module _ (at : ℕ → List ℕ) (may : MayBeKept at) (so_far : AreSoFar limits at words axioms files number) (here : slot (file_slots limits) at number ≡ file_bytes (Used rec)) where
+  module _ (at : ℕ → List ℕ) (may : MayBeKept at) (so_far : AreSoFar limits at words axioms files number) (here : slot (file_slots limits) at number ≡ file_bytes limits.version (Used rec)) where
     abbrev old : FilesHaveBlocks limits at files
     old = so_far.blocks
 
@@ -196,24 +196,24 @@ module _ (limits : Limits) (MayBeKept : (ℕ → List ℕ) → Type 0) (words : 
 
     so_far_more : AreSoFar limits at words axioms more (number + 1)
     so_far_more = record {
-      spelled = each (λ n o ns. n < number + 1 → slot (file_slots limits) at n ≡ file_bytes (file_by o)) (λ _. here) (λ n differ lt. so_far.spelled n (omega (arith, differ, lt)));
+      spelled = each (λ n o ns. n < number + 1 → slot (file_slots limits) at n ≡ file_bytes limits.version (file_by o)) (λ _. here) (λ n differ lt. so_far.spelled n (omega (arith, differ, lt)));
       numbered = numbered_more;
       blocks = blocks_more;
     }
 
 -- ---- one slot more
 module _ (limits : Limits) (MayBeKept : (ℕ → List ℕ) → Type 0) (words : Words) (axioms : Axioms) (slots : FileSlots) (number : ℕ) (first : AreFirstRecords limits words axioms slots number) (lt : number < limits.files) where
-  pub files_on : (found : Option FileSlot) (next : FileSlots) → IfSome found (λ file. IsTrue (is_file limits.version file)) → TakesFile limits MayBeKept words axioms.taxonomy number found slots next
+  pub files_on : (found : Option FileSlot) (next : FileSlots) → IfSome found (λ file. IsTrue (is_file limits file)) → TakesFile limits MayBeKept words axioms.taxonomy number found slots next
       → AreFirstRecords limits words axioms next (number + 1)
   files_on found next form takes = search (rules, takes, files_more)
 
-  pub so_far_on : (at : ℕ → List ℕ) → MayBeKept at → AreSoFar limits at words axioms (in_slots slots) number → (found : Option FileSlot) (next : FileSlots) → IfSome found (λ file. IsTrue (is_file limits.version file))
-      → TakesFile limits MayBeKept words axioms.taxonomy number found slots next → IsReadAs file_bytes (is_file limits.version) (file_slots limits) at number found → AreSoFar limits at words axioms (in_slots next) (number + 1)
+  pub so_far_on : (at : ℕ → List ℕ) → MayBeKept at → AreSoFar limits at words axioms (in_slots slots) number → (found : Option FileSlot) (next : FileSlots) → IfSome found (λ file. IsTrue (is_file limits file))
+      → TakesFile limits MayBeKept words axioms.taxonomy number found slots next → IsReadAs (file_bytes limits.version) (is_file limits) (file_slots limits) at number found → AreSoFar limits at words axioms (in_slots next) (number + 1)
   so_far_on at may old None next form takes read = absurd takes
   so_far_on at may old (Some FreeFile) next form takes read =
       subst (λ (s : FileSlots). AreSoFar limits at words axioms (in_slots s) (number + 1)) (sym takes) (record {
-        spelled = each_number (λ n. n < number + 1 → slot (file_slots limits) at n ≡ file_bytes (file_by (get_or slots.unsorted n None))) number
-            (λ less. read.bytes ∙ ap (λ o. file_bytes (file_by o)) (sym (first.taken.rest number (omega arith)))) (λ n differ less. old.spelled n (omega arith));
+        spelled = each_number (λ n. n < number + 1 → slot (file_slots limits) at n ≡ file_bytes limits.version (file_by (get_or slots.unsorted n None))) number
+            (λ less. read.bytes ∙ ap (λ o. file_bytes limits.version (file_by o)) (sym (first.taken.rest number (omega arith)))) (λ n differ less. old.spelled n (omega arith));
         numbered = old.numbered;
         blocks = old.blocks;
       })
@@ -263,10 +263,10 @@ abbrev pub HasNewName : TakenFiles → ℕ → Type 0
 HasNewName files n = (earlier : ℕ) (other rec : FileRecord) → earlier < n → files.records earlier ≡ Some other → files.records n ≡ Some rec → other.name ≡ rec.name → ⊥
 
 module _ (limits : Limits) (words : Words) (axioms : Axioms) (files : TakenFiles) (end : ℕ) (are : AreFirstWords limits words limits.props) (links : AreFirstAxioms limits words axioms (axiom_slots limits).count) (first : AreTaken limits words axioms files end) where
-  record_of : (n : ℕ) (rec : FileRecord) → files.records n ≡ Some rec → is_record limits.version rec ≡ true
+  record_of : (n : ℕ) (rec : FileRecord) → files.records n ≡ Some rec → is_record limits rec ≡ true
   record_of n rec is =
       let named = list_all (λ k. is_some (word_of words.dict k)) rec.tags in
-      (and_parts (is_record limits.version rec) named (and_parts (is_record limits.version rec && named) (list_all (λ k. nat_lt k limits.blocks) rec.blocks) (first.records n rec is)).0).0
+      (and_parts (is_record limits rec) named (and_parts (is_record limits rec && named) (list_all (λ k. nat_lt k limits.blocks) rec.blocks) (first.records n rec is)).0).0
 
   -- a slot that has a file is below the end
   pub slot_read : (n : ℕ) (rec : FileRecord) → files.records n ≡ Some rec → n < end
@@ -427,7 +427,7 @@ module _ (limits : Limits) (words : Words) (axioms : Axioms) (files : TakenFiles
     record_fault rec blocks below (NotDescribed fails) = words_fault rec fails
 
     file_fault : (found : Option FileSlot) → FilesHaveBlocks limits at files → end < limits.files → HasSlotFault limits at words axioms.taxonomy files.map found
-        → IsReadAs file_bytes (is_file limits.version) (file_slots limits) at end found → (file : FileSlot) → IsFile limits at end file → HasFileFault limits at properties items end file
+        → IsReadAs (file_bytes limits.version) (is_file limits) (file_slots limits) at end found → (file : FileSlot) → IsFile limits at end file → HasFileFault limits at properties items end file
     file_fault None blocks below fault read file is = absurd (read file is)
     file_fault (Some FreeFile) blocks below fault read file is = absurd fault
     file_fault (Some (Used rec)) blocks below fault read file is =
@@ -445,7 +445,7 @@ module _ (limits : Limits) (words : Words) (axioms : Axioms) (files : TakenFiles
     }
 
     pub file_fails : (found : Option FileSlot) → end < limits.files → HasSlotFault limits at words axioms.taxonomy files.map found
-        → IsReadAs file_bytes (is_file limits.version) (file_slots limits) at end found → FilesHaveBlocks limits at files → FileFails limits at end
+        → IsReadAs (file_bytes limits.version) (is_file limits) (file_slots limits) at end found → FilesHaveBlocks limits at files → FileFails limits at end
     file_fails found below fault read blocks = fails_by end below (file_fault found blocks below fault read)
 
     -- a file in an earlier slot has the name of this slot's file too

@@ -41,7 +41,7 @@ abbrev pub IsAxiom : Limits → (ℕ → List ℕ) → ℕ → AxiomSlot → Typ
 IsAxiom limits at n value = IsSlot axiom_bytes is_axiom (axiom_slots limits) at n value
 
 abbrev pub IsFile : Limits → (ℕ → List ℕ) → ℕ → FileSlot → Type 0
-IsFile limits at n file = IsSlot file_bytes (is_file limits.version) (file_slots limits) at n file
+IsFile limits at n file = IsSlot (file_bytes limits.version) (is_file limits) (file_slots limits) at n file
 
 -- the property slots are these, all of them in the layout
 abbrev pub AreProperties : Limits → (ℕ → List ℕ) → List PropSlot → Type 0
@@ -58,7 +58,7 @@ AreAxioms limits at axioms = AreSlots axiom_bytes is_axiom (axiom_slots limits) 
 pub record AreContents (limits : Limits) (at : ℕ → List ℕ) (contents : Contents) : Type 0 where
   pub properties : AreProperties limits at contents.properties
   pub axioms : AreAxioms limits at contents.axioms
-  pub files : AreSlots file_bytes (is_file limits.version) (file_slots limits) at contents.files
+  pub files : AreSlots (file_bytes limits.version) (is_file limits) (file_slots limits) at contents.files
 
 -- the property slot has the word
 pub record HasWord (limits : Limits) (at : ℕ → List ℕ) (n : ℕ) (word : List ℕ) : Type 0 where

@@ -211,7 +211,7 @@ in_catalog files = record { records = λ n. rec_at files.catalog n; map = files.
 
 -- Files of the slots below the end. Their words may be assigned, and the slots have the numbers of their descriptions.
 pub record AreTaken (limits : Limits) (words : Words) (axioms : Axioms) (files : TakenFiles) (end : ℕ) : Type 0 where
-  pub records : (slot : ℕ) (rec : FileRecord) → files.records slot ≡ Some rec → IsTrue (is_sound_record limits.version words.dict limits.blocks rec)
+  pub records : (slot : ℕ) (rec : FileRecord) → files.records slot ≡ Some rec → IsTrue (is_sound_record limits words.dict limits.blocks rec)
   pub given : (slot : ℕ) (rec : FileRecord) → files.records slot ≡ Some rec → IsTrue (list_all (is_assignable_number words) rec.tags)
   pub rest : (n : ℕ) → end ≤ n → files.records n ≡ None
   pub blocks : length files.map ≡ limits.blocks
@@ -235,7 +235,7 @@ pub record AreFiles (limits : Limits) (words : Words) (axioms : Axioms) (files :
 
 abbrev pub FilesAreSpelled : Limits → (ℕ → List ℕ) → TakenFiles → ℕ → Type 0
 FilesAreSpelled limits at files end =
-    (n : ℕ) → n < end → slot (file_slots limits) at n ≡ file_bytes (file_by (files.records n))
+    (n : ℕ) → n < end → slot (file_slots limits) at n ≡ file_bytes limits.version (file_by (files.records n))
 
 -- the numbers of each file are those of the words that are found in it
 abbrev pub FilesAreNumbered : Limits → (ℕ → List ℕ) → Words → Axioms → TakenFiles → Type 0

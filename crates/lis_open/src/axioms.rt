@@ -7,7 +7,7 @@ ghost use Rattle.lis_journal.specs.Images.{Fits};
 ghost use Rattle.lis_dict.specs.Dict.{word_of};
 ghost use Rattle.lis_taxonomy.specs.Taxonomy.{has_edge, edge_count, edge_room, empty_taxonomy};
 ghost use Rattle.lis_fields.specs.Layouts.{axiom_bytes, is_axiom};
-ghost use Rattle.lis_model.specs.Ranges.{are_in_range};
+ghost use Rattle.lis_model.specs.Ranges.{are_stored};
 ghost use Rattle.lis_kept.specs.Areas.{axiom_slots};
 ghost use Rattle.lis_kept.specs.Edges.{with_edge_to};
 ghost use Rattle.lis_open.specs.Reading.{Recalls, IsReadAs, Ends, ReadsPart, IsReadable};
@@ -43,7 +43,7 @@ impl Axioms {
 
 // How many axiom slots there are, in whole blocks.
 fn slot_count(limits: &Limits) -> u32
-    requires { IsTrue (are_in_range limits.now) }
+    requires { IsTrue (are_stored limits.now) }
     ensures { result ≡ (axiom_slots limits.now).count }
 {
     let each = AXIOMS_PER_BLOCK as u32;
@@ -52,7 +52,7 @@ fn slot_count(limits: &Limits) -> u32
 
 /// No axioms yet, and no links.
 pub fn no_axioms(alloc: Global, limits: &Limits) -> Result<Axioms, AllocError>
-    requires { IsTrue (are_in_range limits.now) }
+    requires { IsTrue (are_stored limits.now) }
     ensures { IfOk result (AreNoAxioms limits.now) }
 {
     Ok(Axioms {
@@ -90,7 +90,7 @@ fn link_head(taxonomy: &mut Taxonomy, number: u32, head: Option<u32>)
 
 // Links each valued word to its head, if the head has a number.
 fn link_heads(limits: &Limits, words: &Words, taxonomy: &mut Taxonomy)
-    requires range { IsTrue (are_in_range limits.now) }
+    requires range { IsTrue (are_stored limits.now) }
     requires words { AreFirstWords limits.now words.now limits.now.props }
     requires none { taxonomy.old ≡ empty_taxonomy limits.now.props }
     ensures { LinksHeads words.now limits.now.props taxonomy.new }
@@ -102,7 +102,7 @@ fn link_heads(limits: &Limits, words: &Words, taxonomy: &mut Taxonomy)
 
 // Links each declared test to the next weaker one.
 fn link_tests(limits: &Limits, words: &Words, taxonomy: &mut Taxonomy)
-    requires range { IsTrue (are_in_range limits.now) }
+    requires range { IsTrue (are_stored limits.now) }
     requires words { AreFirstWords limits.now words.now limits.now.props }
     requires heads { LinksHeads words.now limits.now.props taxonomy.old }
     ensures { LinksTests words.now taxonomy.old taxonomy.new }

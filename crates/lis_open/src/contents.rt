@@ -65,7 +65,7 @@ pub fn read_content<D: Disk>(
     bytes: &mut Buffer,
 ) -> Result<(), Failed>
     requires readable { IsReadable limits.now journal.now (D.meaning disk.old) }
-    requires form { IsTrue (is_record limits.now.version rec.now) }
+    requires form { IsTrue (is_record limits.now rec.now) }
     requires below { IsTrue (list_all (λ n. nat_lt n limits.now.blocks) blocks.now) }
     requires count { blocks_needed rec.now.size ≤ length blocks.now }
     ensures disk { ReadsDisk (D.meaning disk.old) (D.meaning disk.new) result }

@@ -14,7 +14,7 @@ ghost use Rattle.lis_ext.specs.Numbers.{numbers_where};
 ghost use Rattle.lis_fields.specs.Layouts.{file_bytes, is_file, is_record};
 ghost use Rattle.lis_words.specs.Words.{test_of};
 ghost use Rattle.lis_model.specs.Tests.{is_met, met_tests};
-ghost use Rattle.lis_model.specs.Ranges.{are_in_range};
+ghost use Rattle.lis_model.specs.Ranges.{are_stored};
 ghost use Rattle.lis_kept.specs.Areas.{file_slots, axiom_slots};
 ghost use Rattle.lis_kept.specs.Telling.{bit_of};
 ghost use Rattle.lis_open.specs.Reading.{Recalls, IsReadAs, ReadsPart, IsReadable};
@@ -78,7 +78,7 @@ impl FileSlots {
 /// No slot is read yet.
 #[tactic(auto, unfolding(crate::specs::ReadFiles::no_files))]
 pub fn no_files(alloc: Global, limits: &Limits) -> Result<FileSlots, AllocError>
-    requires { IsTrue (are_in_range limits.now) }
+    requires { IsTrue (are_stored limits.now) }
     ensures { IfOk result (λ slots. slots ≡ no_files limits.now) }
 {
     Ok(FileSlots {
@@ -99,10 +99,10 @@ fn read_slot<D: Disk>(
     requires readable { IsReadable limits.now journal.now (D.meaning disk.old) }
     requires slot { slot < limits.now.files }
     ensures disk { ReadsDisk (D.meaning disk.old) (D.meaning disk.new) result }
-    ensures form { IfOk result (λ found. IfSome found (λ file. IsTrue (is_file limits.now.version file))) }
+    ensures form { IfOk result (λ found. IfSome found (λ file. IsTrue (is_file limits.now file))) }
     ensures recalls { (kept : ℕ → List ℕ) → Fits journal.now (D.meaning disk.old) kept → Recalls last.old kept → Recalls last.new kept }
     ensures read { IfOk result (λ found. (kept : ℕ → List ℕ) → Fits journal.now (D.meaning disk.old) kept → Recalls last.old kept
-        → IsReadAs file_bytes (is_file limits.now.version) (file_slots limits.now) kept slot found) }
+        → IsReadAs (file_bytes limits.now.version) (is_file limits.now) (file_slots limits.now) kept slot found) }
 {
     let mut bytes = [0; FILE_LEN];
     last.read_slot(disk, journal, files_start(limits), slot, &mut bytes)?;
@@ -250,7 +250,7 @@ fn take_record<D: Disk>(
 ) -> Result<bool, Failed>
     requires readable { IsReadable known.limits.now known.journal.now (D.meaning disk.old) }
     requires are { AreWords known.words.now }
-    requires form { IsTrue (is_record known.limits.now.version rec) }
+    requires form { IsTrue (is_record known.limits.now rec) }
     requires props { known.axioms.now.taxonomy.props ≡ known.words.now.dict.props }
     requires ext { slots.old.ext.props ≡ known.words.now.dict.props }
     requires map { length slots.old.map ≡ known.limits.now.blocks }
@@ -297,7 +297,7 @@ fn take_file<D: Disk>(
 ) -> Result<bool, Failed>
     requires readable { IsReadable known.limits.now known.journal.now (D.meaning disk.old) }
     requires are { AreWords known.words.now }
-    requires form { IfSome found (λ file. IsTrue (is_file known.limits.now.version file)) }
+    requires form { IfSome found (λ file. IsTrue (is_file known.limits.now file)) }
     requires props { known.axioms.now.taxonomy.props ≡ known.words.now.dict.props }
     requires ext { slots.old.ext.props ≡ known.words.now.dict.props }
     requires map { length slots.old.map ≡ known.limits.now.blocks }

@@ -132,7 +132,7 @@ pub fn free_blocks<D: Disk>(
     rec: &FileRec,
 ) -> Result<Option<ArrayVec<u32, MOST_BLOCKS>>, Failed>
     requires readable { IsReadable limits.now journal.now (D.meaning disk.old) }
-    requires form { IsTrue (is_record limits.now.version rec.now) }
+    requires form { IsTrue (is_record limits.now rec.now) }
     requires map { length map.now ≡ limits.now.blocks }
     ensures disk { ReadsDisk (D.meaning disk.old) (D.meaning disk.new) result }
     ensures count { IfOk result (λ found. IfSome found (λ blocks. blocks_needed rec.now.size ≤ length blocks.items)) }

@@ -110,15 +110,15 @@ module _ (s : State) (formed : WellFormed s) (name : List ℕ) (has : has_name s
   same_state : file_replaced s old.name old ≡ s
   same_state = ap (λ n. file_replaced s n old) (file_of_name s.files name) ∙ ap (λ files. record s { files = files }) (put_again s.files name formed.file_set has)
 
-  short : length old.bytes ≤ file_limit s.limits.version
-  short = leb-true _ _ (all_among (λ (f : File). nat_le (length f.bytes) (file_limit s.limits.version)) s.files old formed.files.short there)
+  short : length old.bytes ≤ file_limit s.limits
+  short = leb-true _ _ (all_among (λ (f : File). nat_le (length f.bytes) (file_limit s.limits)) s.files old formed.files.short there)
 
   limit_le : (two : Bool) → cond two 1048576 65536 ≤ payload_limit
   limit_le true = omega arith
   limit_le false = omega arith
 
   not_large : exceeds_file s (length old.bytes) ≡ false
-  not_large = le-ltb (file_limit s.limits.version) (length old.bytes) short
+  not_large = le-ltb (file_limit s.limits) (length old.bytes) short
 
   here : not (is_here (root_of s) old.name) ≡ false
   here =

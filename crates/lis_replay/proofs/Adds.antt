@@ -111,7 +111,7 @@ module _ (t : State) (formed : WellFormed t) where
 
       small : exceeds_file (by_files front) (length file.bytes) ≡ false
       small = false_from_ne_true (exceeds_file (by_files front) (length file.bytes))
-          (λ h. omega (arith, ltb-true _ _ h, leb-true _ _ (all_among (λ (f : File). nat_le (length f.bytes) (file_limit t.limits.version)) t.files file formed.files.short member)))
+          (λ h. omega (arith, ltb-true _ _ h, leb-true _ _ (all_among (λ (f : File). nat_le (length f.bytes) (file_limit t.limits)) t.files file formed.files.short member)))
 
       own : list_any is_built_in (first_words file) ≡ false
       own = none_any is_built_in (first_words file) (λ w m. (given w m).not_built_in)

@@ -127,7 +127,7 @@ file_in_form t formed file m = record {
   name = all_among (λ (f : File). is_file_name f.name) t.files file formed.files.names m;
   words = λ w given. (given_words t formed file m w given).form;
   few = leb-true _ _ (all_among (λ (f : File). nat_le (length f.assigned) 16) t.files file formed.files.few_assigned m);
-  short = omega (arith, limit_le t.limits.version, leb-true _ _ (all_among (λ (f : File). nat_le (length f.bytes) (file_limit t.limits.version)) t.files file formed.files.short m));
+  short = omega (arith, limit_le t.limits.version, leb-true _ _ (all_among (λ (f : File). nat_le (length f.bytes) (file_limit t.limits)) t.files file formed.files.short m));
 }
 
 module _ (file : File) (formed : IsFileInForm file) where

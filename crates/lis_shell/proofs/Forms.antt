@@ -4,7 +4,7 @@ use Rattle.std.specs.Option.{option_map}
 use Rattle.std.proofs.lemmas.Bool.{and_parts, and_from}
 use Rattle.lis_words.specs.Words.{same_word, is_count, count_of, is_file_name}
 use Rattle.lis_model.specs.declared.limits.Limits.{Limits}
-use Rattle.lis_model.specs.Ranges.{is_files_limit, is_props_limit, is_blocks_limit, is_version, are_in_range}
+use Rattle.lis_model.specs.Ranges.{is_files_limit, is_props_limit, is_blocks_limit, is_version, are_stored}
 use Rattle.lis_shell.specs.declared.words.Task.{Task}
 use Rattle.lis_shell.specs.declared.words.Task.TheVariants.{Try, Make, Upgrade, OnImage}
 use Rattle.lis_shell.specs.declared.words.ImageTask.{ImageTask}
@@ -16,7 +16,7 @@ held : (t : Bool) (all limits : Limits) → cond t (Some all) None ≡ Some limi
 held true all limits e = (refl, (cc))
 held false all limits e = absurd (cc)
 
-limits_in_range : (version : ℕ) (files props blocks : List ℕ) (limits : Limits) → IsTrue (is_version version) → limits_of version files props blocks ≡ Some limits → IsTrue (are_in_range limits)
+limits_in_range : (version : ℕ) (files props blocks : List ℕ) (limits : Limits) → IsTrue (is_version version) → limits_of version files props blocks ≡ Some limits → IsTrue (are_stored limits)
 limits_in_range version files props blocks limits versioned e =
     let all : Limits = record { files = count_of files; props = count_of props; blocks = count_of blocks; version = version } in
     let of_files : Bool = is_count files && is_files_limit (count_of files) in
@@ -25,10 +25,10 @@ limits_in_range version files props blocks limits versioned e =
     let is = held (of_files && of_props && of_blocks) all limits e in
     let front = and_parts (of_files && of_props) of_blocks is.0 in
     let first = and_parts of_files of_props front.0 in
-    let range : IsTrue (are_in_range all) = and_from _ (is_version version) (both (and_parts (is_count files) (is_files_limit (count_of files)) first.0).1
+    let range : IsTrue (are_stored all) = and_from _ (is_version version) (both (and_parts (is_count files) (is_files_limit (count_of files)) first.0).1
     (and_parts (is_count props) (is_props_limit (count_of props)) first.1).1
     (and_parts (is_count blocks) (is_blocks_limit (count_of blocks)) front.1).1) versioned in
-    subst (λ l. IsTrue (are_in_range l)) is.1 range
+    subst (λ l. IsTrue (are_stored l)) is.1 range
   where
     both : {a b c : Bool} → a ≡ true → b ≡ true → c ≡ true → IsTrue (a && b && c)
     both e f g = cc
@@ -43,7 +43,7 @@ IsAskedOf words (Some Put) = NamesPart words
 IsAskedOf words work = Unit {0}
 
 abbrev IsAsked : List (List ℕ) → Option Task → Type 0
-IsAsked words (Some (Make limits)) = IsTrue (are_in_range limits)
+IsAsked words (Some (Make limits)) = IsTrue (are_stored limits)
 IsAsked words (Some (OnImage work)) = IsAskedOf words (Some work)
 IsAsked words task = Unit {0}
 
@@ -56,15 +56,15 @@ module _ {A : Type 0} (P : Option A → Type 0) where
   mapped task each none (Some b) = each b
   mapped task each none None = none
 
-made : (words : List (List ℕ)) (found : Option Limits) → ((limits : Limits) → found ≡ Some limits → IsTrue (are_in_range limits)) → IsAsked words (option_map Make found)
+made : (words : List (List ℕ)) (found : Option Limits) → ((limits : Limits) → found ≡ Some limits → IsTrue (are_stored limits)) → IsAsked words (option_map Make found)
 made words (Some limits) range = range limits refl
 made words None range = tt
 
-limits_are : (words : List (List ℕ)) (limits : Limits) → limits_in words ≡ Some limits → IsTrue (are_in_range limits)
+limits_are : (words : List (List ℕ)) (limits : Limits) → limits_in words ≡ Some limits → IsTrue (are_stored limits)
 limits_are (files ∷ props ∷ blocks ∷ []) limits e = limits_in_range 1 files props blocks limits refl e
 limits_are (files ∷ props ∷ blocks ∷ last ∷ []) limits e = by (same_word last (codes "v2")) e
   where
-    by : (t : Bool) → cond t (limits_of 2 files props blocks) None ≡ Some limits → IsTrue (are_in_range limits)
+    by : (t : Bool) → cond t (limits_of 2 files props blocks) None ≡ Some limits → IsTrue (are_stored limits)
     by true e = limits_in_range 2 files props blocks limits refl e
     by false e = absurd (cc)
 limits_are words limits e = absurd (cc)

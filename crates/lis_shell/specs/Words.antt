@@ -2,19 +2,20 @@
 use Rattle.std.specs.Prelude.{ℕ, ◌*◌, nat_lt, not, ◌&&◌, if◌then◌else◌, Option, Some, None, List, [], ◌∷◌, IsTrue, codes, slice_index_or, ◌^◌, ⊤}
 use Rattle.lis_words.specs.Words.{same_word, is_count, count_of, is_file_name}
 use Rattle.lis_model.specs.declared.limits.Limits.{Limits}
-use Rattle.lis_model.specs.Ranges.{is_files_limit, is_props_limit, is_blocks_limit, are_in_range}
+use Rattle.lis_model.specs.Ranges.{is_files_limit, is_props_limit, is_blocks_limit, are_stored}
 use Rattle.lis_model.specs.Image.{image_blocks}
 use Rattle.lis_shell.specs.declared.words.Task.{Task}
 use Rattle.lis_shell.specs.declared.words.Task.TheVariants.{Try, Make, Upgrade, OnImage}
 use Rattle.lis_shell.specs.declared.words.ImageTask.{ImageTask}
 use Rattle.lis_shell.specs.declared.words.ImageTask.TheVariants.{Run, Load, Rooms, Dump, Grow, View, Put}
-use Rattle.std.specs.Option.{option_map}
+use Rattle.std.specs.Option.{option_map, option_and_then}
 use Rattle.lis_limits.specs.declared.TheConstants.{BLOCK_LEN}
 
 -- three counts that are limits in range, of the version
 abbrev pub limits_of : ℕ → List ℕ → List ℕ → List ℕ → Option Limits
 limits_of version files props blocks =
-    if is_count files && is_files_limit (count_of files) && (is_count props && is_props_limit (count_of props)) && (is_count blocks && is_blocks_limit (count_of blocks))
+    if is_count files && is_files_limit version (count_of files) && (is_count props && is_props_limit version (count_of props))
+        && (is_count blocks && is_blocks_limit version (count_of blocks))
     then Some (record { files = count_of files; props = count_of props; blocks = count_of blocks; version = version })
     else None
 
@@ -22,14 +23,22 @@ limits_of version files props blocks =
 abbrev pub grow_number_of : List ℕ → Option ℕ
 grow_number_of digits = if is_count digits && nat_lt (count_of digits) (2 ^ 31) then Some (count_of digits) else None
 
--- three limits, with or without `v2` after them: what begins with them is of version 2 or 1
+-- the version that a word after the limits says
+abbrev pub version_of : List ℕ → Option ℕ
+version_of word = if same_word word (codes "v2") then Some 2 else if same_word word (codes "v3") then Some 3 else None
+
+-- three limits, with or without a version after them: what begins with them is of that version, or of version 1
 abbrev pub limits_in : List (List ℕ) → Option Limits
 limits_in [] = None
 limits_in (files ∷ []) = None
 limits_in (files ∷ props ∷ []) = None
 limits_in (files ∷ props ∷ blocks ∷ []) = limits_of 1 files props blocks
-limits_in (files ∷ props ∷ blocks ∷ last ∷ []) = if same_word last (codes "v2") then limits_of 2 files props blocks else None
+limits_in (files ∷ props ∷ blocks ∷ last ∷ []) = option_and_then (λ version. limits_of version files props blocks) (version_of last)
 limits_in (files ∷ props ∷ blocks ∷ last ∷ more ∷ words) = None
+
+-- the same of an image, which is not of version 3
+abbrev pub stored_in : List (List ℕ) → Option Limits
+stored_in words = option_and_then (λ limits. if are_stored limits then Some limits else None) (limits_in words)
 
 -- the words with nothing after their image
 abbrev pub work_alone : List ℕ → Option ImageTask
@@ -62,7 +71,7 @@ upgrade_alone (word ∷ words) = None
 -- the same, or to make an image or to upgrade one
 abbrev pub task_with : List ℕ → List (List ℕ) → Option Task
 task_with word words =
-    if same_word word (codes "make") then option_map Make (limits_in words)
+    if same_word word (codes "make") then option_map Make (stored_in words)
     else if same_word word (codes "upgrade") then upgrade_alone words
     else option_map OnImage (work_named word words)
 
@@ -75,7 +84,7 @@ task_of (word ∷ second ∷ words) = if same_word word (codes "try") then optio
 -- the limits of an image to be made are in range
 abbrev pub MakesInRange : Task → Type 0
 MakesInRange (Try limits) = ⊤
-MakesInRange (Make limits) = IsTrue (are_in_range limits)
+MakesInRange (Make limits) = IsTrue (are_stored limits)
 MakesInRange Upgrade = ⊤
 MakesInRange (OnImage work) = ⊤
 

@@ -82,7 +82,7 @@ derived_few_own name bytes = omega (arith, derived_few name bytes)
 
 -- ---- the row, part by part
 abbrev pub front_checks : Metadata → List Formula → List (List ℕ) → File → ℕ → List (Bool × Refusal)
-front_checks k place words file size = (nat_lt (file_limit k.limits.version) size, LargeFile) ∷ named_checks k place words file
+front_checks k place words file size = (nat_lt (file_limit k.limits) size, LargeFile) ∷ named_checks k place words file
 
 pub room_refused : (k : Metadata) (place : List Formula) (name : List ℕ) (words : List (List ℕ)) (bytes : List ℕ) (size : ℕ) (given : List (List ℕ)) → given ≡ assigned_at place words
     → first_refusal (front_checks k place words (new_file name (assigned_at place words) bytes) size) ≡ None → (refusal : Refusal)
@@ -93,13 +93,13 @@ pub none_there : {X : Type 0} (o : Option X) → is_some o ≡ false → o ≡ N
 none_there o e = search (rules)
 
 -- What a store requires of a payload is about the store's value, and what is proved is about its metadata.
-pub whole_inside : {old now : Stored} (bytes : List ℕ) (size : ℕ) → old ≡ now → (size ≤ file_limit now.metadata.limits.version → length bytes ≡ size)
-    → size ≤ file_limit old.metadata.limits.version → length bytes ≡ size
-whole_inside bytes size is whole small = whole (subst (λ (k : Stored). size ≤ file_limit k.metadata.limits.version) is small)
+pub whole_inside : {old now : Stored} (bytes : List ℕ) (size : ℕ) → old ≡ now → (size ≤ file_limit now.metadata.limits → length bytes ≡ size)
+    → size ≤ file_limit old.metadata.limits → length bytes ≡ size
+whole_inside bytes size is whole small = whole (subst (λ (k : Stored). size ≤ file_limit k.metadata.limits) is small)
 
 -- ---- a row that refuses nothing
 -- A file of a name, with the words of a place and words that were named, is admitted.
-module _ (k : Metadata) (place : List Formula) (name : List ℕ) (words : List (List ℕ)) (bytes : List ℕ) (size : ℕ) (form : is_file_name name ≡ true) (whole : size ≤ file_limit k.limits.version → length bytes ≡ size)
+module _ (k : Metadata) (place : List Formula) (name : List ℕ) (words : List (List ℕ)) (bytes : List ℕ) (size : ℕ) (form : is_file_name name ≡ true) (whole : size ≤ file_limit k.limits → length bytes ≡ size)
     (none : first_refusal (add_checks_of k place name words bytes size) ≡ None) where
   abbrev let_in : File
   let_in = new_file name (assigned_at place words) bytes
@@ -107,8 +107,8 @@ module _ (k : Metadata) (place : List Formula) (name : List ℕ) (words : List (
   row : AllPass (add_checks_of k place name words bytes size)
   row = all_pass (add_checks_of k place name words bytes size) none
 
-  small : size ≤ file_limit k.limits.version
-  small = ltb-false (file_limit k.limits.version) size row.0
+  small : size ≤ file_limit k.limits
+  small = ltb-false (file_limit k.limits) size row.0
 
   pub admitted : IsAdmitted k (draft_of let_in)
   admitted =
@@ -146,7 +146,7 @@ module _ (k : Stored) (s : State) (sound : IsSound k) (fits : ToldBy k s) (place
     -- the checks for which the words do not matter
     abbrev front : Limits → Bool → List (List ℕ) → ℕ → List (Bool × Refusal)
     front limits taken declared files =
-        (nat_lt (file_limit limits.version) size, LargeFile)
+        (nat_lt (file_limit limits) size, LargeFile)
         ∷ (taken, NameTaken)
         ∷ (not (is_some (place_words place)), NotAPlace)
         ∷ (list_any is_built_in words, BuiltIn)

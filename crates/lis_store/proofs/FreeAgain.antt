@@ -1,5 +1,5 @@
 -- How many blocks are free after some are freed.
-use Rattle.lis_store.proofs.Common.{rules, ◌≡◌, refl, ap, ◌∙◌, subst, inl, inr, ℕ, ◌+◌, ◌≤◌, not, Bool, true, false, cond, List, [], ◌∷◌, length, filter, set, Option, Some, IsSome, arith, get_or-set_other, and_parts, cases_lt, cond-false, eqb-true, ne_eqb, not-true, or_cases, sum_by-set, Among, Meaning, Held, is_taken, free_count, is_large, small_size, rec_at, FileRecord, Limits, are_in_range, file_limit, blocks_taken, Metadata, AreSound, record_in_form, both_ways, given, has_number, are_distinct, GivesBack, number_from_among}
+use Rattle.lis_store.proofs.Common.{rules, ◌≡◌, refl, ap, ◌∙◌, subst, inl, inr, ℕ, ◌+◌, ◌≤◌, not, Bool, true, false, cond, List, [], ◌∷◌, length, filter, set, Option, Some, IsSome, arith, get_or-set_other, and_parts, cases_lt, cond-false, eqb-true, ne_eqb, not-true, or_cases, sum_by-set, Among, Meaning, Held, is_taken, free_count, is_large, small_size, rec_at, FileRecord, Limits, are_stored, file_limit, blocks_taken, Metadata, AreSound, record_in_form, both_ways, given, has_number, are_distinct, GivesBack, number_from_among}
 use Rattle.std.proofs.lemmas.List.{set_past}
 use Rattle.lis_content.proofs.Numbers.{below_if_taken}
 use Rattle.lis_kept.proofs.Dropped.{blocks_apart}
@@ -37,7 +37,7 @@ all_pass_filter test (n ∷ ns) each =
 
 -- ---- versions
 -- a version that is not the second is the first
-pub first_version : (limits : Limits) → are_in_range limits ≡ true → (limits.version ≡ 2 → ⊥) → limits.version ≡ 1
+pub first_version : (limits : Limits) → are_stored limits ≡ true → (limits.version ≡ 2 → ⊥) → limits.version ≡ 1
 first_version limits range not_two = search (rules, and_parts, or_cases, eqb-true)
 
 -- ---- a file whose blocks are freed

@@ -41,9 +41,9 @@ module _ (k : Stored) (sound : IsSound k) (slot : ℕ) (rec : FileRecord) (is_re
 
   -- ---- a row that refuses nothing
   pub may_stand : (draft : Draft) → is_file_name draft.name ≡ true → (draft.name ≢ rec.name → slot_of p.catalog draft.name ≡ None) → is_rising word_cmp draft.assigned ≡ true → length draft.assigned ≤ 16
-      → list_all is_built_in draft.own ≡ true → length draft.own ≤ 128 → draft.size ≤ file_limit p.limits.version → (more : List (Bool × Refusal)) → AllPass (instead_checks p slot draft ++ more)
+      → list_all is_built_in draft.own ≡ true → length draft.own ≤ 128 → draft.size ≤ file_limit p.limits → (more : List (Bool × Refusal)) → AllPass (instead_checks p slot draft ++ more)
       → MayReplace p slot rec draft
   may_stand draft name new set few own few_own small more row = search (rules, there, not-false, ltb-false)
 
-  pub sized_small : (size : ℕ) → size ≤ rec.size → size ≤ file_limit p.limits.version
+  pub sized_small : (size : ℕ) → size ≤ rec.size → size ≤ file_limit p.limits
   sized_small size sized = omega (arith, sized, (record_in_form p.limits.version p.dict p.limits.blocks rec (sound.metadata.records slot rec is_rec)).small)

@@ -4,7 +4,7 @@ use Rattle.std.proofs.Common.{◌^◌}
 use Rattle.lis_store.proofs.Common.{◌≡◌, ◌⊎◌, refl, sym, ap, ap₂, ◌∙◌, subst, inl, inr, ℕ, ◌≤◌, nat_lt, nat_le, ◌&&◌, ◌||◌, cond, Bool, true, false, List, [], ◌∷◌, ◌++◌, length, is_some, IsSome, arith, flat_map, list_all, IsStrictlyIncreasing, nat_cmp, nat_cmp_total, and_parts, or_cases, lt-ltb, is_rising, Among, among_filter, among_append, among_left, among_flat_map, members_le, sorted_from_rising, number_of, word_of, are_blocks, is_record, word_cmp, has_word, is_valued, is_head, is_built_in, head_bytes, with_word, with_words, State, heads, up, all_up, is_assignable, met_tests, plain_not_valued, among_heads, up_self, all_weaker, rising_from_sorted, word_order, among_with_words, with_words_new, sorted_with_words, among_from_has_word, Metadata, AreSound, is_sound_record, is_declared, declared_of, axioms_of, among_where, sorted_where, few_properties, and_from, or_left, or_right, both_ways, le-leb, flat_map-append, IsStrictlyIncreasing-from_sorted, flat_map_among, words, has_number, all_among, all_from, with_words_old, set_of_among, number_from_among}
 use Rattle.std.proofs.lemmas.List.Sums.{fold-append}
 use Rattle.lis_fields.specs.Layouts.{are_tags}
-use Rattle.lis_model.specs.Sets.{are_short}
+use Rattle.lis_model.specs.Sets.{fit}
 use Rattle.lis_fields.proofs.Parts.{record_from}
 use Rattle.lis_words.specs.Words.{built_in_heads}
 use Rattle.lis_laws.proofs.Apart.{head_built_in}
@@ -135,8 +135,8 @@ module _ {p : Metadata} (sound : AreSound p) {draft : Draft} (may : MayComeIn p 
 module _ (r : Metadata) (sound : AreSound r) (words : List (List ℕ)) where
   pub named_tags : length words ≤ 16 → are_tags (numbers_named r.dict words) ≡ true
   named_tags few =
-      and_from (nat_le (length (numbers_named r.dict words)) 16 && are_short (numbers_named r.dict words)) (is_rising nat_cmp (numbers_named r.dict words))
-      (and_from (nat_le (length (numbers_named r.dict words)) 16) (are_short (numbers_named r.dict words))
+      and_from (nat_le (length (numbers_named r.dict words)) 16 && fit 2 (numbers_named r.dict words)) (is_rising nat_cmp (numbers_named r.dict words))
+      (and_from (nat_le (length (numbers_named r.dict words)) 16) (fit 2 (numbers_named r.dict words))
       (le-leb (length (numbers_named r.dict words)) 16 (omega (arith, named_few r.dict sound.dict words, few)))
       (all_from (λ n. nat_lt n (2 ^ 16)) (numbers_named r.dict words) (λ n m.
       lt-ltb n (2 ^ 16) (omega (arith, (among_where r.dict.props (λ k. is_one_of words (word_of r.dict k)) n m).0, sound.numbers, few_properties r.limits sound.range)))))
@@ -152,12 +152,12 @@ module _ (r : Metadata) (sound : AreSound r) (words : List (List ℕ)) where
 
 -- ---- its record
 pub record_sound : {p r : Metadata} {draft : Draft} → MayComeIn p draft → AreSound r → LearnsAll (with_heads (learnt_words draft)) p r → (blocks : List ℕ) → are_blocks p.limits.version draft.size blocks ≡ true
-    → list_all (λ n. nat_lt n p.limits.blocks) blocks ≡ true → is_sound_record r.limits.version r.dict r.limits.blocks (record_of (numbers_named r.dict draft.assigned) draft blocks) ≡ true
+    → list_all (λ n. nat_lt n p.limits.blocks) blocks ≡ true → is_sound_record r.limits r.dict r.limits.blocks (record_of (numbers_named r.dict draft.assigned) draft blocks) ≡ true
 record_sound {p} {r} {draft} may sound learns blocks formed below =
     let rec = record_of (numbers_named r.dict draft.assigned) draft blocks in
-    and_from (is_record r.limits.version rec && list_all (λ n. is_some (word_of r.dict n)) rec.tags) (list_all (λ n. nat_lt n r.limits.blocks) blocks)
-    (and_from (is_record r.limits.version rec) (list_all (λ n. is_some (word_of r.dict n)) rec.tags)
-    (ap (λ (k : Metadata). is_record k.limits.version rec) learns.metadata ∙ record_from p.limits.version rec may.name may.small (named_tags r sound draft.assigned may.few) formed)
+    and_from (is_record r.limits rec && list_all (λ n. is_some (word_of r.dict n)) rec.tags) (list_all (λ n. nat_lt n r.limits.blocks) blocks)
+    (and_from (is_record r.limits rec) (list_all (λ n. is_some (word_of r.dict n)) rec.tags)
+    (ap (λ (k : Metadata). is_record k.limits rec) learns.metadata ∙ record_from p.limits.version rec may.name may.small (named_tags r sound draft.assigned may.few) formed)
     (named_worded r sound draft.assigned))
     (ap (λ (k : Metadata). list_all (λ n. nat_lt n k.limits.blocks) blocks) learns.metadata ∙ below)
 

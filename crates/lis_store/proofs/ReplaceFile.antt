@@ -36,7 +36,7 @@ may_retaken p taken marks slot rec draft may = search (rules)
 put_retaken : (p : Metadata) (taken marks : List Bool) (slot : Option ℕ) (draft : Draft) → MayPut p slot draft → MayPut (retaken p taken marks) slot draft
 put_retaken p taken marks slot draft may = search (rules, retaken, may_retaken)
 
-put_small : (p : Metadata) (slot : Option ℕ) (draft : Draft) → MayPut p slot draft → draft.size ≤ file_limit p.limits.version
+put_small : (p : Metadata) (slot : Option ℕ) (draft : Draft) → MayPut p slot draft → draft.size ≤ file_limit p.limits
 put_small p slot draft may = search (rules)
 
 record_retaken : (p : Metadata) (taken marks : List Bool) (slot : Option ℕ) → record_in (retaken p taken marks) slot ≡ record_in p slot
@@ -108,7 +108,7 @@ room_without old s sound {at} tells slot rec there size room =
 pub anew_there : {old now : Stored} → old ≡ now → (slot : Option ℕ) (draft : Draft) → MayPut now.metadata slot draft → IfSome slot (λ s. IsSome (rec_at old.metadata.catalog s))
 anew_there {old} same slot draft may = may_there slot old.metadata draft (subst (λ (o : Stored). MayPut o.metadata slot draft) (sym same) may)
 
-pub anew_small : {old now : Stored} → old ≡ now → (slot : Option ℕ) (draft : Draft) → MayPut now.metadata slot draft → draft.size ≤ file_limit old.metadata.limits.version
+pub anew_small : {old now : Stored} → old ≡ now → (slot : Option ℕ) (draft : Draft) → MayPut now.metadata slot draft → draft.size ≤ file_limit old.metadata.limits
 anew_small {old} same slot draft may = put_small old.metadata slot draft (subst (λ (o : Stored). MayPut o.metadata slot draft) (sym same) may)
 
 -- What a call requires is about the store's value `now`, and what is proved is about its metadata, `old`.
@@ -275,7 +275,7 @@ module _ {old now : Stored} (same : old ≡ now) (sound : IsSound old) (name : L
   blocks_are : numbers ≡ rec.blocks
   blocks_are = numbers_are rec (found_there same sound name named).1
 
-  sound_rec : is_sound_record old.metadata.limits.version old.metadata.dict old.metadata.limits.blocks rec ≡ true
+  sound_rec : is_sound_record old.metadata.limits old.metadata.dict old.metadata.limits.blocks rec ≡ true
   sound_rec = sound.metadata.records slot rec (found_there same sound name named).1
 
   pub still_in_form : {size : ℕ} → ((rec : FileRecord) → rec_at old.metadata.catalog slot ≡ Some rec → size ≡ rec.size) → are_blocks old.metadata.limits.version size numbers ≡ true
@@ -284,7 +284,7 @@ module _ {old now : Stored} (same : old ≡ now) (sound : IsSound old) (name : L
   pub still_below : list_all (λ n. nat_lt n old.metadata.limits.blocks) numbers ≡ true
   still_below =
       ap (list_all (λ n. nat_lt n old.metadata.limits.blocks)) blocks_are
-      ∙ (and_parts (is_record old.metadata.limits.version rec && list_all (λ n. is_some (word_of old.metadata.dict n)) rec.tags) (list_all (λ n. nat_lt n old.metadata.limits.blocks) rec.blocks) sound_rec).1
+      ∙ (and_parts (is_record old.metadata.limits rec && list_all (λ n. is_some (word_of old.metadata.dict n)) rec.tags) (list_all (λ n. nat_lt n old.metadata.limits.blocks) rec.blocks) sound_rec).1
 
 module _ {old now : Stored} (same : old ≡ now) (sound : IsSound old) (unbroken_now : now.is_broken ≡ false) {gone : Option FileRecord} {q : Metadata} {draft : Draft} {numbers : List ℕ}
     (refiled : RefilesIn gone draft numbers old.metadata q) where

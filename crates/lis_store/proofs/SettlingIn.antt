@@ -27,8 +27,8 @@ module _ {slot : ℕ} {old : List ℕ} {draft : Draft} {tags numbers : List ℕ}
       (among_from_number numbers n (sym (ap (λ ns. has_number ns n) set_is) ∙ h))
 
   pub record_described : (blocks : List ℕ) → are_blocks p.limits.version draft.size blocks ≡ true → list_all (λ n. nat_lt n p.limits.blocks) blocks ≡ true
-      → is_sound_record d.limits.version d.dict d.limits.blocks (record_of tags draft blocks) ≡ true
+      → is_sound_record d.limits d.dict d.limits.blocks (record_of tags draft blocks) ≡ true
   record_described blocks formed below =
-      ap (λ (x : Metadata). is_sound_record x.limits.version x.dict x.limits.blocks (record_of tags draft blocks)) describes.metadata
-      ∙ (ap (λ ts. is_sound_record l.limits.version l.dict l.limits.blocks (record_of ts draft blocks)) own.tagged
+      ap (λ (x : Metadata). is_sound_record x.limits x.dict x.limits.blocks (record_of tags draft blocks)) describes.metadata
+      ∙ (ap (λ ts. is_sound_record l.limits l.dict l.limits.blocks (record_of ts draft blocks)) own.tagged
       ∙ record_sound may own.sound own.learns blocks formed below)

@@ -16,7 +16,7 @@ use Rattle.lis_bits.specs.Bytes.{bits_bytes}
 use Rattle.lis_bits.proofs.Numbers.{bytes_same}
 use Rattle.lis_dict.proofs.Laws.{number_from_among}
 use Rattle.lis_fields.specs.Layouts.{is_axiom, is_file, slot_blocks}
-use Rattle.lis_model.specs.Sets.{are_short}
+use Rattle.lis_model.specs.Sets.{fit}
 use Rattle.lis_fields.proofs.Parts.{record_tests, few_blocks}
 use Rattle.lis_fields.specs.declared.slots.PropSlot.{PropSlot}
 use Rattle.lis_fields.specs.declared.slots.PropSlot.TheVariants.{Free as FreeProp, Declared}
@@ -54,7 +54,7 @@ contents_of k = record { properties = properties_told k; axioms = k.axioms; file
 
 -- what a sound record is
 pub record SoundParts (k : Metadata) (rec : FileRecord) : Type 0 where
-  pub short : rec.size ≤ file_limit k.limits.version
+  pub short : rec.size ≤ file_limit k.limits
   pub count : length rec.blocks ≡ slot_blocks k.limits.version rec.size
   pub apart : are_distinct rec.blocks ≡ true
   pub named : list_all (λ n. is_some (word_of k.dict n)) rec.tags ≡ true
@@ -63,10 +63,10 @@ pub record SoundParts (k : Metadata) (rec : FileRecord) : Type 0 where
 pub sound_parts : (k : Metadata) → AreSound k → (f : Filed) → Among k.catalog.entries f → SoundParts k f.rec
 sound_parts k sound f m =
     let rec = f.rec in
-    let most = and_parts (is_record k.limits.version rec && list_all (λ n. is_some (word_of k.dict n)) rec.tags) (list_all (λ n. nat_lt n k.limits.blocks) rec.blocks) (sound.records f.slot rec (filed_rec k.catalog sound.catalog f m)) in
-    let both = and_parts (is_record k.limits.version rec) (list_all (λ n. is_some (word_of k.dict n)) rec.tags) most.0 in
+    let most = and_parts (is_record k.limits rec && list_all (λ n. is_some (word_of k.dict n)) rec.tags) (list_all (λ n. nat_lt n k.limits.blocks) rec.blocks) (sound.records f.slot rec (filed_rec k.catalog sound.catalog f m)) in
+    let both = and_parts (is_record k.limits rec) (list_all (λ n. is_some (word_of k.dict n)) rec.tags) most.0 in
     let form = record_tests k.limits.version rec both.0 in
-    let ns = and_parts ((length rec.blocks == slot_blocks k.limits.version rec.size) && are_short rec.blocks) (are_distinct rec.blocks) form.blocks in
+    let ns = and_parts ((length rec.blocks == slot_blocks k.limits.version rec.size) && fit 2 rec.blocks) (are_distinct rec.blocks) form.blocks in
     record {
       short = form.small;
       count = few_blocks k.limits.version rec.size rec.blocks form.blocks;
@@ -278,12 +278,12 @@ module _ (k : Metadata) (at : ℕ → List ℕ) (sound : AreSound k) (free : Fre
         (written Axioms n (omega (arith, slice_get_within k.axioms n value is, sound.axiom_count)) ∙ ap axiom_bytes given, subst (λ x. IsTrue (is_axiom x)) given (axioms_formed k sound n));
   }
 
-  file_slots_are : AreSlots file_bytes (is_file k.limits.version) (file_slots k.limits) at (files_told k)
+  file_slots_are : AreSlots (file_bytes k.limits.version) (is_file k.limits) (file_slots k.limits) at (files_told k)
   file_slots_are = record {
     count = length-map-range_with_len (record_at k.catalog) 0 k.limits.files;
     each = λ n value is.
         let given = given_at (record_at k.catalog) k.limits.files n value is in
-        (written Files n given.0 ∙ ap file_bytes given.1, subst (λ x. IsTrue (is_file k.limits.version x)) given.1 (records_formed k sound n));
+        (written Files n given.0 ∙ ap (file_bytes k.limits.version) given.1, subst (λ x. IsTrue (is_file k.limits x)) given.1 (records_formed k sound n));
   }
 
   -- ---- names and pairs once

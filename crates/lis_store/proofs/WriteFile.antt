@@ -28,7 +28,7 @@ pub found_there : {old now : Stored} → old ≡ now → IsSound old → (name :
 found_there {old} same sound name {slot} named = rec_at-slot_of old.metadata.catalog name slot sound.metadata.catalog (ap (λ (k : Stored). slot_of k.metadata.catalog name) same ∙ named)
 
 -- ---- rows
-pub rest_of_write : (k : Metadata) (place : List Formula) (name : List ℕ) (slot : ℕ) (rec : FileRecord) (file : File) (size : ℕ) → size ≤ file_limit k.limits.version → is_among k place name ≡ true
+pub rest_of_write : (k : Metadata) (place : List Formula) (name : List ℕ) (slot : ℕ) (rec : FileRecord) (file : File) (size : ℕ) → size ≤ file_limit k.limits → is_among k place name ≡ true
     → first_refusal (write_checks_of k place name slot rec file size) ≡ first_refusal (overwriting_checks k slot rec file size)
 rest_of_write k place name slot rec file size small here = search (rules, le-ltb)
 
@@ -42,7 +42,7 @@ module _ (k : Stored) (sound : IsSound k) (place : List Formula) (name : List �
   same_name : rec.name ≡ name
   same_name = (filed_named k.metadata sound.metadata name slot rec named there).1
 
-  write_first : (bytes : List ℕ) (size : ℕ) → size ≤ file_limit k.metadata.limits.version → length bytes ≡ size
+  write_first : (bytes : List ℕ) (size : ℕ) → size ≤ file_limit k.metadata.limits → length bytes ≡ size
       → first_refusal (overwriting_checks k.metadata slot rec (given_before k.metadata rec name bytes) size) ≡ None → MayReplace k.metadata slot rec (draft_of (given_before k.metadata rec name bytes))
   write_first bytes size most long none =
       let file = given_before k.metadata rec name bytes in
@@ -101,7 +101,7 @@ module _ (k : Stored) (s : State) (sound : IsSound k) (fits : ToldBy k s) (name 
     old_words : (file_of s.files name).assigned ≡ assigned
     old_words = old_given k s sound fits name slot rec named there ∙ sym words_are
 
-    written_done : (payload : Payload) → payload.size ≤ file_limit k.metadata.limits.version
+    written_done : (payload : Payload) → payload.size ≤ file_limit k.metadata.limits
         → first_refusal (overwriting_checks k.metadata slot rec (given_before k.metadata rec name payload.bytes) payload.size) ≡ None
         → write at_place name payload ≡ changed at_place (file_replaced s name (new_file name assigned payload.bytes))
     written_done payload small none =
@@ -119,7 +119,7 @@ module _ (k : Stored) (s : State) (sound : IsSound k) (fits : ToldBy k s) (name 
 
 -- ---- a write that is admitted
 module _ {old now : Stored} (same : old ≡ now) (sound : IsSound old) (place : List Formula) (name : List ℕ) {slot : ℕ} (named_now : slot_of now.metadata.catalog name ≡ Some slot)
-    (here_now : true ≡ is_among now.metadata place name) (bytes : List ℕ) {size : ℕ} (small : size ≤ file_limit old.metadata.limits.version) (whole : size ≤ file_limit now.metadata.limits.version → length bytes ≡ size)
+    (here_now : true ≡ is_among now.metadata place name) (bytes : List ℕ) {size : ℕ} (small : size ≤ file_limit old.metadata.limits) (whole : size ≤ file_limit now.metadata.limits → length bytes ≡ size)
     (row : (rec : FileRecord) → rec_at old.metadata.catalog slot ≡ Some rec → first_refusal (overwriting_checks old.metadata slot rec (given_before old.metadata rec name bytes) size) ≡ None)
     {words : List (List ℕ)} (words_are : (rec : FileRecord) → rec_at old.metadata.catalog slot ≡ Some rec → words ≡ words_told old.metadata.dict rec.tags) where
   abbrev p : Metadata
@@ -135,7 +135,7 @@ module _ {old now : Stored} (same : old ≡ now) (sound : IsSound old) (place : 
   found = found_there same sound name named_now
 
   long : length bytes ≡ size
-  long = whole (subst (λ (k : Stored). size ≤ file_limit k.metadata.limits.version) same small)
+  long = whole (subst (λ (k : Stored). size ≤ file_limit k.metadata.limits) same small)
 
   -- what is required of metadata in which these bytes replace those of a file
   abbrev pub WriteAsks : Metadata → Type 0
@@ -184,12 +184,12 @@ module _ {T : Type 0} (old : Stored) (m : Meaning) (place : List Formula) (name 
   abbrev any_rec : FileRecord
   any_rec = record { name = []; size = 0; tags = []; blocks = [] }
 
-  pub written_nowhere : (payload : Payload) → payload.size ≤ file_limit old.metadata.limits.version → is_among old.metadata place name ≡ false → result ≡ Err (Refused NoFileHere)
+  pub written_nowhere : (payload : Payload) → payload.size ≤ file_limit old.metadata.limits → is_among old.metadata place name ≡ false → result ≡ Err (Refused NoFileHere)
       → Holds base now (write now name payload) old m m result
   written_nowhere payload small none ends =
       let rest = first_refusal (overwriting_checks old.metadata 0 any_rec (given_before old.metadata any_rec name payload.bytes) payload.size) in
       written_refused 0 any_rec (λ some. absurd (both_ways (is_among old.metadata place name) none some)) payload NoFileHere
-      (ap (λ b. cond b (Some LargeFile) (cond (not (is_among old.metadata place name)) (Some NoFileHere) rest)) (le-ltb (file_limit old.metadata.limits.version) payload.size small) ∙ ap (λ b. cond (not b) (Some NoFileHere) rest) none) ends
+      (ap (λ b. cond b (Some LargeFile) (cond (not (is_among old.metadata place name)) (Some NoFileHere) rest)) (le-ltb (file_limit old.metadata.limits) payload.size small) ∙ ap (λ b. cond (not b) (Some NoFileHere) rest) none) ends
 
   pub renamed_nowhere : (other : List ℕ) → is_among old.metadata place name ≡ false → result ≡ Err (Refused NoFileHere) → Holds base now (rename now name other) old m m result
   renamed_nowhere other none ends =

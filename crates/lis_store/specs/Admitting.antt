@@ -54,7 +54,7 @@ room_checks k draft size =
 
 abbrev pub file_checks : Metadata → List Formula → List (List ℕ) → File → ℕ → List (Bool × Refusal)
 file_checks k place words file size =
-    (nat_lt (file_limit k.limits.version) size, LargeFile) ∷ named_checks k place words file ++ room_checks k (draft_of file) size
+    (nat_lt (file_limit k.limits) size, LargeFile) ∷ named_checks k place words file ++ room_checks k (draft_of file) size
 
 -- the row of `add`
 abbrev pub add_checks_of : Metadata → List Formula → List ℕ → List (List ℕ) → List ℕ → ℕ → List (Bool × Refusal)
@@ -72,4 +72,4 @@ pub record IsAdmitted (k : Metadata) (draft : Draft) : Type 0 where
   pub slots : length k.catalog.entries < k.limits.files
   pub short : length (described_by k draft) ≤ MAX_DESCRIPTION
   pub room : length (known_with k draft) ≤ k.limits.props
-  pub small : draft.size ≤ file_limit k.limits.version
+  pub small : draft.size ≤ file_limit k.limits

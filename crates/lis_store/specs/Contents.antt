@@ -35,7 +35,7 @@ AreContentsWithin limits at rec = IsTrue (list_all (λ n. nat_lt n limits.blocks
 -- These bytes may be put as a content, if there are blocks for them.
 pub record IsReadyForContent (bytes : List ℕ) (k : Stored) (m : Meaning) : Type 0 where
   -- a file may have this many bytes
-  pub short : length bytes ≤ file_limit k.metadata.limits.version
+  pub short : length bytes ≤ file_limit k.metadata.limits
   -- the journal is that of the image, and no disk call failed
   pub image : shape_of k.journal ≡ image_shape k.metadata.limits
   pub usable : JournalIsUsable k.journal m

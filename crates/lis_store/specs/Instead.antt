@@ -48,7 +48,7 @@ renaming_checks k slot file = (is_some (slot_of k.catalog file.name), NameTaken)
 -- the rows of `write` and of `rename`, and that the words may be assigned, as those of each file of a state may
 abbrev pub write_checks_of : Metadata → List Formula → List ℕ → ℕ → FileRecord → File → ℕ → List (Bool × Refusal)
 write_checks_of k place name slot rec file size =
-    (nat_lt (file_limit k.limits.version) size, LargeFile)
+    (nat_lt (file_limit k.limits) size, LargeFile)
     ∷ (not (is_among k place name), NoFileHere)
     ∷ overwriting_checks k slot rec file size
 

@@ -34,4 +34,4 @@ pub record MayReplace (k : Metadata) (slot : ℕ) (rec : FileRecord) (draft : Dr
   pub few_own : length draft.own ≤ MAX_DESCRIPTION
   pub short : length (described_by k draft) ≤ MAX_DESCRIPTION
   pub room : length (known_instead k slot draft) ≤ k.limits.props
-  pub small : draft.size ≤ file_limit k.limits.version
+  pub small : draft.size ≤ file_limit k.limits

@@ -64,7 +64,7 @@ pub record MayComeIn (k : Metadata) (draft : Draft) : Type 0 where
   pub few_own : length draft.own ≤ MAX_DESCRIPTION
   pub short : length (described_by k draft) ≤ MAX_DESCRIPTION
   pub room : length (known_with k draft) ≤ k.limits.props
-  pub small : draft.size ≤ file_limit k.limits.version
+  pub small : draft.size ≤ file_limit k.limits
 
 -- The slot has no file, and these numbers are its description. Without them memory is well formed.
 pub record IsVacant (slot : ℕ) (old : List ℕ) (k : Metadata) : Type 0 where

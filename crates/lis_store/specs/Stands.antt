@@ -21,7 +21,7 @@ use Rattle.lis_fields.specs.Layouts.{SpellsSuper, prop_bytes, is_prop, axiom_byt
 use Rattle.lis_words.specs.Words.{has_word}
 use Rattle.lis_model.specs.declared.limits.Limits.{Limits}
 use Rattle.lis_model.specs.Image.{bitmap_start, image_blocks}
-use Rattle.lis_model.specs.Ranges.{are_in_range}
+use Rattle.lis_model.specs.Ranges.{are_stored}
 use Rattle.lis_model.specs.Sets.{set_of, are_distinct}
 use Rattle.lis_model.specs.State.{State, File, pair_cmp, file_cmp, known, description, WellFormed}
 use Rattle.lis_kept.specs.Areas.{property_slots, axiom_slots, file_slots, row_slots}
@@ -128,7 +128,7 @@ row_bit s limits contents at p i =
 pub record Spells (limits : Limits) (contents : Contents) (at : ℕ → List ℕ) (s : State) : Type 0 where
   pub properties : AreSlots prop_bytes is_prop (property_slots limits) at contents.properties
   pub axioms : AreSlots axiom_bytes is_axiom (axiom_slots limits) at contents.axioms
-  pub files : AreSlots file_bytes (is_file limits.version) (file_slots limits) at contents.files
+  pub files : AreSlots (file_bytes limits.version) (is_file limits) (file_slots limits) at contents.files
   pub named_axioms : IsTrue (list_all (is_named_axiom contents.properties) contents.axioms)
   pub free_axioms : IsTrue (list_all is_free_axiom (drop limits.props contents.axioms))
   pub named : IsTrue (list_all (λ (rec : FileRecord). list_all (λ n. is_some (word_at contents.properties n)) rec.tags) (all_records contents.files))
@@ -147,7 +147,7 @@ pub record Spells (limits : Limits) (contents : Contents) (at : ℕ → List ℕ
 -- The image has a super block with the state's limits, is as long as these say, and has a replayed image that spells the state. What is
 -- past the image does not count.
 pub record StandsFor (image : List ℕ) (s : State) : Type 0 where
-  pub range : IsTrue (are_in_range s.limits)
+  pub range : IsTrue (are_stored s.limits)
   pub super : SpellsSuper s.limits (part 0 BLOCK_LEN image)
   pub long : BLOCK_LEN * image_blocks s.limits ≤ length image
   pub replay : List ℕ

@@ -87,7 +87,7 @@ fn may_name(
     place: &Place,
     file: NewFile,
 ) -> Result<ArrayVec<Word, 16>, Refusal>
-    ensures row { Judges ((nat_lt (file_limit metadata.now.limits.version) file.entry.size, LargeFile) ∷ named_checks metadata.now place.now file.entry.tags.now
+    ensures row { Judges ((nat_lt (file_limit metadata.now.limits) file.entry.size, LargeFile) ∷ named_checks metadata.now place.now file.entry.tags.now
         (new_file file.entry.name.now (assigned_at place.now file.entry.tags.now) file.entry.bytes.now)) result }
     ensures words { IfOk result (λ words. words.items ≡ assigned_at place.now file.entry.tags.now) }
     ensures few { IfOk result (λ words. length words.items ≤ MAX_ASSIGNED) }

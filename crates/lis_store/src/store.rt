@@ -95,7 +95,7 @@ impl Store {
         place: &Place,
         write: Write,
     ) -> Result<(), ChangeFault>
-        requires whole { IsWhole self.old.metadata.limits.version write }
+        requires whole { IsWhole self.old.metadata.limits write }
         requires scratch { HasRoom scratch.old self.old.metadata.limits }
         requires usable { IsUsable self.old (D.meaning disk.old) }
         ensures scratch { HasRoom scratch.new self.old.metadata.limits }
@@ -122,7 +122,7 @@ impl Store {
         place: &Place,
         write: Write,
     ) -> Result<(), ChangeFault>
-        requires whole { IsWhole self.old.metadata.limits.version write }
+        requires whole { IsWhole self.old.metadata.limits write }
         requires scratch { HasRoom scratch.old self.old.metadata.limits }
         requires usable { IsUsable self.old (D.meaning disk.old) }
         ensures scratch { HasRoom scratch.new self.old.metadata.limits }

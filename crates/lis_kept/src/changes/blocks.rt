@@ -8,7 +8,7 @@ ghost use Rattle.lis_catalog.specs.Catalog.{rec_at};
 ghost use Rattle.lis_content.specs.Large.{is_large};
 ghost use Rattle.lis_fields.specs.Records.{FileRecord};
 ghost use Rattle.lis_model.specs.Image.{bitmap_start, data_start};
-ghost use Rattle.lis_model.specs.Ranges.{are_in_range};
+ghost use Rattle.lis_model.specs.Ranges.{are_stored};
 ghost use Rattle.lis_model.specs.State.{blocks_taken, file_limit};
 ghost use Rattle.lis_kept.specs.Changes.{GivesBack, Puts, PutTorn};
 ghost use Rattle.lis_kept.specs.Sound.{AreSound};
@@ -27,7 +27,7 @@ use lis_ports::{Disk, Failed};
 
 // Marks the block of the bitmap.
 fn mark_bitmap(marks: &mut Flags, limits: &Limits)
-    requires range { IsTrue (are_in_range limits.now) }
+    requires range { IsTrue (are_stored limits.now) }
     requires long { data_start limits.now ≤ length marks.old }
     ensures { marks.new ≡ slice_set marks.old (bitmap_start limits.now) true }
 {
@@ -43,7 +43,7 @@ impl Metadata {
         disk: &mut D,
         bytes: &[u8],
     ) -> Result<ArrayVec<u32, 16>, Failed>
-        requires short { length bytes.now ≤ file_limit self.old.limits.version }
+        requires short { length bytes.now ≤ file_limit self.old.limits }
         requires enough { blocks_taken self.old.limits.version (length bytes.now) ≤ free_count self.old.taken }
         requires image { shape_of journal.old ≡ image_shape self.old.limits }
         requires usable { JournalIsUsable journal.old (D.meaning disk.old) }

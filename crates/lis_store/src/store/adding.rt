@@ -32,7 +32,7 @@ impl Store {
         place: &Place,
         file: NewFile,
     ) -> Result<(), ChangeFault>
-        requires whole { file.size ≤ file_limit self.old.metadata.limits.version → length file.bytes.now ≡ file.size }
+        requires whole { file.size ≤ file_limit self.old.metadata.limits → length file.bytes.now ≡ file.size }
         requires usable { IsUsable self.old (D.meaning disk.old) }
         ensures holds { (base : State) (s : State) → StoreHolds self.old (D.meaning disk.old) base s
             → Holds base (record { state = s; place = place.now })

@@ -35,7 +35,7 @@ impl Store {
         payload: &[u8],
         size: u64,
     ) -> Result<(), ChangeFault>
-        requires whole { size ≤ file_limit self.old.metadata.limits.version → length payload.now ≡ size }
+        requires whole { size ≤ file_limit self.old.metadata.limits → length payload.now ≡ size }
         requires scratch { HasRoom scratch.old self.old.metadata.limits }
         requires usable { IsUsable self.old (D.meaning disk.old) }
         ensures scratch { HasRoom scratch.new self.old.metadata.limits }

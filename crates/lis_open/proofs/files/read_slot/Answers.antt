@@ -18,4 +18,4 @@ returns-clause-read g c = λ kept fits recalls.
     let limits = c.args.limits.now in
     let starts = c.files_start.ensures in
     let read = c.in_ok-read_slot.ensures.read kept fits recalls limits.files in
-    read_as file_bytes (is_file limits.version) (file_slots limits) kept c.args.slot c.read_file.result c.read_slot.new.buf c.requires.slot (rw starts at read) c.read_file.ensures.spelled c.read_file.ensures.same
+    read_as (file_bytes limits.version) (is_file limits) (file_slots limits) kept c.args.slot c.read_file.result c.read_slot.new.buf c.requires.slot (rw starts at read) c.read_file.ensures.spelled c.read_file.ensures.same

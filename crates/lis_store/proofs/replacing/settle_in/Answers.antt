@@ -52,7 +52,7 @@ place_record-requires-clause-sound c =
     let d = c.describe.new.self in
     let D : List ℕ → Type 0 = λ ns. Describes c.args.new_slot.now.slot ns c.learn_own-numbers.new.metadata d in
     let make : List ℕ → FileRecord = λ name. record { name = name; size = c.args.draft.size; tags = c.learn_own-numbers.result.tags.items; blocks = c.args.blocks.items } in
-    ap (λ name. is_sound_record d.limits.version d.dict d.limits.blocks (make name)) c.copied.ensures
+    ap (λ name. is_sound_record d.limits d.dict d.limits.blocks (make name)) c.copied.ensures
     ∙ record_described c.requires.vacant c.requires.may c.learn_own-numbers.ensures.learnt (subst D c.as_slice.ensures.value c.describe.ensures.describes) c.args.blocks.items c.requires.in_form c.requires.below
 
 pub overflow_cast-draft : goal.overflow_cast-draft
