@@ -164,7 +164,7 @@ circle_keeps = refl
 whole_payload : is_payload (record { size = 3; bytes = codes "abc" }) ≡ true
 whole_payload = refl
 
-large_payload : is_payload (record { size = 1048577; bytes = [] }) ≡ true
+large_payload : is_payload (record { size = 67108865; bytes = [] }) ≡ true
 large_payload = refl
 
 short_payload : is_payload (record { size = 3; bytes = codes "ab" }) ≡ false

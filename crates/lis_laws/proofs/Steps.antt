@@ -1,5 +1,5 @@
 -- A step keeps states well formed and places within their limits.
-use Rattle.std.proofs.Common.{◌≡◌, ◌⊎◌, ◌==◌, ℕ, ◌+◌, ◌≤◌, nat_lt, nat_le, Bool, true, false, not, ◌&&◌, cond, Option, Some, None, List, [], ◌∷◌, ◌++◌, length, filter, refl, subst, inl, inr, arith}
+use Rattle.std.proofs.Common.{◌≡◌, ◌⊎◌, ◌==◌, ◌||◌, ◌/◌, ℕ, ◌+◌, ◌≤◌, nat_lt, nat_le, Bool, true, false, not, ◌&&◌, cond, Option, Some, None, List, [], ◌∷◌, ◌++◌, length, filter, refl, subst, inl, inr, arith}
 use Rattle.std.specs.Prelude.{option_map, unwrap_or}
 use Rattle.std.specs.List.{list_all, flat_map}
 use Rattle.std.proofs.lemmas.Bool.{and_parts, and_from, not-false, not_from_false, false_from_ne_true, both_ways, ltb-false, ltb-true, leb-false, leb-true, le-leb, eqb-true}
@@ -76,18 +76,30 @@ blocks_le : (a b : ℕ) → a ≤ b → blocks_needed a ≤ blocks_needed b
 blocks_le a b le = omega arith
 
 pub taken_le : (version a b : ℕ) → a ≤ b → blocks_taken version a ≤ blocks_taken version b
-taken_le version a b le = by (version == 2) (nat_lt 16 (blocks_needed a)) (nat_lt 16 (blocks_needed b)) refl refl
+taken_le version a b le = by (version == 1) (nat_le m 16) (nat_le n 16) refl refl
   where
-    more : blocks_needed a ≤ blocks_needed b
+    m : ℕ
+    m = blocks_needed a
+
+    n : ℕ
+    n = blocks_needed b
+
+    more : m ≤ n
     more = blocks_le a b le
 
-    by : (two x y : Bool) → nat_lt 16 (blocks_needed a) ≡ x → nat_lt 16 (blocks_needed b) ≡ y
-        → cond (two && x) (blocks_needed a + 1) (blocks_needed a) ≤ cond (two && y) (blocks_needed b + 1) (blocks_needed b)
-    by false x y e f = more
-    by true true true e f = omega (arith, more)
-    by true true false e f = absurd (omega (arith, more, ltb-true 16 (blocks_needed a) e, ltb-false 16 (blocks_needed b) f))
-    by true false true e f = omega (arith, more)
-    by true false false e f = more
+    by : (one x y : Bool) → nat_le m 16 ≡ x → nat_le n 16 ≡ y → m + cond (one || x) 0 ((m + 1023) / 1024) ≤ n + cond (one || y) 0 ((n + 1023) / 1024)
+    by true x y e f = omega (arith, more)
+    by false true true e f = omega (arith, more)
+    by false true false e f = omega (arith, more)
+    by false false true e f = absurd (omega (arith, more, leb-true n 16 f, leb-false m 16 e))
+    by false false false e f = omega (arith, more)
+
+none_taken : (version : ℕ) → blocks_taken version 0 ≡ 0
+none_taken version = by (version == 1)
+  where
+    by : (one : Bool) → 0 + cond (one || true) 0 0 ≡ 0
+    by true = refl
+    by false = refl
 
 -- ---- words of places
 tags_rising : (place : List Formula) → is_rising word_cmp (tags_at place) ≡ true
@@ -188,11 +200,7 @@ pub create_fits : (now : Situation) (name : List ℕ) (words : List (List ℕ)) 
     → NoneStands (create_checks now words (new_file name (assigned_at now.place words) []) (file_added now.state (new_file name (assigned_at now.place words) [])))
     → FileFits now.state (new_file name (assigned_at now.place words) [])
 create_fits now name words before named none =
-    new_file_fits now name words [] named (omega arith) (room (now.state.limits.version == 2) before.state.few_blocks) none
-  where
-    room : (two : Bool) → used_blocks now.state ≤ now.state.limits.blocks → used_blocks now.state + cond (two && false) 1 0 ≤ now.state.limits.blocks
-    room true h = omega (arith, h)
-    room false h = omega (arith, h)
+    new_file_fits now name words [] named (omega arith) (omega (arith, before.state.few_blocks, none_taken now.state.limits.version)) none
 
 create_keeps : (now : Situation) (name : List ℕ) (words : List (List ℕ)) → IsInForm now → is_file_name name ≡ true → IsInForm (create now name words).next
 create_keeps now name words before named =
@@ -300,9 +308,9 @@ write_replaces now old payload before sized here none =
     new = new_file old.name old.assigned payload.bytes
 
     for_le : blocks_for now.state old ≤ free_blocks now.state + blocks_taken now.state.limits.version (length old.bytes)
-    for_le = by (now.state.limits.version == 2)
+    for_le = by (now.state.limits.version == 1)
       where
-        by : (two : Bool) → cond two (free_blocks now.state) (free_blocks now.state + blocks_taken now.state.limits.version (length old.bytes)) ≤ free_blocks now.state + blocks_taken now.state.limits.version (length old.bytes)
+        by : (one : Bool) → cond one (free_blocks now.state + blocks_taken now.state.limits.version (length old.bytes)) (free_blocks now.state) ≤ free_blocks now.state + blocks_taken now.state.limits.version (length old.bytes)
         by true = omega arith
         by false = omega arith
 
