@@ -1,6 +1,6 @@
 ghost use Rattle.std.specs.Prelude.{◌≡◌, ℕ, ◌<◌, None, Some, is_some, length, replicate, slice_index_or, slice_set, vec_capacity, IsTrue, IfOk, IfErr};
 ghost use Rattle.lis_words.specs.Words.{is_file_name};
-ghost use Rattle.lis_model.specs.Ranges.{is_files_limit};
+ghost use Rattle.lis_limits.specs.declared.TheConstants.{MAX_FILES};
 ghost use Rattle.lis_catalog.specs.Catalog.{HasRecords, IsFirstAgain};
 ghost use Rattle.lis_catalog.specs.Inside.{IsUnsorted, IsOrdered, name_in, slot_cmp, lower, IsLeastRepeat};
 
@@ -81,7 +81,7 @@ fn first_again(records: &[Option<FileRec>], order: &[u32]) -> Option<u32>
 impl Unsorted {
     /// Slots below `files`, without records.
     pub fn new(alloc: Global, files: u32) -> Result<Unsorted, AllocError>
-        requires { IsTrue (is_files_limit files) }
+        requires { files ≤ MAX_FILES }
         ensures { IfOk result (λ unsorted. unsorted ≡ replicate files None) }
     {
         Ok(Unsorted {

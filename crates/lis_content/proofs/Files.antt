@@ -11,7 +11,7 @@ use Rattle.lis_content.specs.Content.{content, are_free, are_within, has_home}
 use Rattle.lis_content.specs.Large.{is_large, slot_count, index_bytes, numbers_in, index_home, content_blocks, file_content, file_blocks, IsIndexed}
 use Rattle.lis_content.specs.Placing.{IsPlaced}
 use Rattle.lis_content.proofs.Numbers.{below_from_free, within_if_below}
-use Rattle.lis_content.proofs.Indexes.{length-numbers_in, large_numbers, large_blocks, small_numbers, small_blocks}
+use Rattle.lis_content.proofs.Indexes.{taken_with_index, length-numbers_in, large_numbers, large_blocks, small_numbers, small_blocks}
 
 by_size : (size : ℕ) → (is_large size ≡ true) ⊎ (is_large size ≡ false)
 by_size size = by (is_large size)
@@ -21,18 +21,22 @@ by_size size = by (is_large size)
     by false = inr refl
 
 -- a file has as many blocks as its size takes
-pub length-file_blocks : (base : ℕ) (slot : List ℕ) (size : ℕ) (at : ℕ → List ℕ) → length slot ≡ slot_count size → length (file_blocks base slot size at) ≡ blocks_taken 2 size
-length-file_blocks base slot size at len = elim (by_size size) as (λ _. length (file_blocks base slot size at) ≡ blocks_taken 2 size) [
-  | inl large ↦
-      ap length (large_blocks base slot size at large)
-      ∙ (length-append (numbers_in (blocks_needed size) (at (index_home base slot))) slot
-      ∙ (ap (λ k. k + length slot) (length-numbers_in (blocks_needed size) (at (index_home base slot)))
-      ∙ (ap (λ k. blocks_needed size + k) (len ∙ cond-true (is_large size) 1 (blocks_needed size) large)
-      ∙ sym (cond-true (is_large size) (blocks_needed size + 1) (blocks_needed size) large))))
-  | inr small ↦
-      ap length (small_blocks base slot size at small)
-      ∙ (len ∙ (cond-false (is_large size) 1 (blocks_needed size) small ∙ sym (cond-false (is_large size) (blocks_needed size + 1) (blocks_needed size) small)))
-]
+pub length-file_blocks : (base : ℕ) (slot : List ℕ) (size : ℕ) (at : ℕ → List ℕ) → size ≤ 1048576 → length slot ≡ slot_count size
+    → length (file_blocks base slot size at) ≡ blocks_taken 2 size
+length-file_blocks base slot size at few len = counted ∙ taken_with_index size few
+  where
+    counted : length (file_blocks base slot size at) ≡ cond (is_large size) (blocks_needed size + 1) (blocks_needed size)
+    counted = elim (by_size size) as (λ _. length (file_blocks base slot size at) ≡ cond (is_large size) (blocks_needed size + 1) (blocks_needed size)) [
+      | inl large ↦
+          ap length (large_blocks base slot size at large)
+          ∙ (length-append (numbers_in (blocks_needed size) (at (index_home base slot))) slot
+          ∙ (ap (λ k. k + length slot) (length-numbers_in (blocks_needed size) (at (index_home base slot)))
+          ∙ (ap (λ k. blocks_needed size + k) (len ∙ cond-true (is_large size) 1 (blocks_needed size) large)
+          ∙ sym (cond-true (is_large size) (blocks_needed size + 1) (blocks_needed size) large))))
+      | inr small ↦
+          ap length (small_blocks base slot size at small)
+          ∙ (len ∙ (cond-false (is_large size) 1 (blocks_needed size) small ∙ sym (cond-false (is_large size) (blocks_needed size + 1) (blocks_needed size) small)))
+    ]
 
 -- ---- a file when other blocks change
 -- what these blocks have is the same

@@ -125,3 +125,20 @@ index_zeros count block is =
     ap (λ xs. list_all (λ b. b == 0) (drop (2 * count) xs)) is
     ∙ (ap (list_all (λ b. b == 0)) (drop_at (flat_map (little_bytes 2) ns) (replicate zeros 0) (2 * count) (length-spelled ns ∙ ap (λ n. 2 * n) (length-numbers_in count block)))
     ∙ are_zeros zeros)
+
+-- ---- how many blocks
+-- of at most 1,048,576 bytes, one block at most numbers the others
+pub taken_with_index : (size : ℕ) → size ≤ 1048576 → cond (is_large size) (blocks_needed size + 1) (blocks_needed size) ≡ blocks_taken 2 size
+taken_with_index size few = by (nat_lt 16 n) (nat_le n 16) refl refl
+  where
+    n : ℕ
+    n = blocks_needed size
+
+    most : n ≤ 256
+    most = omega (arith, few)
+
+    by : (x y : Bool) → nat_lt 16 n ≡ x → nat_le n 16 ≡ y → cond x (n + 1) n ≡ n + cond y 0 ((n + 1023) / 1024)
+    by true true e f = absurd (omega (arith, ltb-true 16 n e, leb-true n 16 f))
+    by true false e f = omega (arith, most, ltb-true 16 n e)
+    by false true e f = omega arith
+    by false false e f = absurd (omega (arith, ltb-false 16 n e, leb-false n 16 f))

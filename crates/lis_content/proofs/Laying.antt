@@ -277,21 +277,21 @@ laid_done base bytes rest start now_taken before now blocks none was = record {
     empty [] is = refl
     empty (x ∷ xs) is = absurd (omega arith)
 
-pub placed_small : (base : ℕ) (bytes : List ℕ) (start now_taken : List Bool) (before now : Held) {old new : Meaning} (blocks : List ℕ) → is_large (length bytes) ≡ false → IsLaid base bytes start now_taken before now old new blocks → IsPlaced base bytes start now_taken before now old new blocks
-placed_small base bytes start now_taken before now blocks small was = record {
+pub placed_small : (base : ℕ) (bytes : List ℕ) (start now_taken : List Bool) (before now : Held) {old new : Meaning} (blocks : List ℕ) → length bytes ≤ 1048576 → is_large (length bytes) ≡ false → IsLaid base bytes start now_taken before now old new blocks → IsPlaced base bytes start now_taken before now old new blocks
+placed_small base bytes start now_taken before now blocks few small was = record {
   blocks = blocks;
   lays = lays_as base start now_taken before now blocks _ (HasFile base bytes blocks blocks) (λ at is. record {
     reads = ap (λ ns. content base ns (length bytes) at) (small_numbers base blocks (length bytes) at small) ∙ is;
     index = λ large. absurd (false≢true (sym small ∙ large));
     all = small_blocks base blocks (length bytes) at small;
   }) was.lays;
-  count = was.count ∙ sym (cond-false (is_large (length bytes)) (blocks_needed (length bytes) + 1) (blocks_needed (length bytes)) small);
+  count = was.count ∙ (sym (cond-false (is_large (length bytes)) (blocks_needed (length bytes) + 1) (blocks_needed (length bytes)) small) ∙ taken_with_index (length bytes) few);
   slot_len = was.count ∙ sym (cond-false (is_large (length bytes)) 1 (blocks_needed (length bytes)) small);
   slot_is = sym (cond-false (is_large (length bytes)) (drop (blocks_needed (length bytes)) blocks) blocks small);
 }
 
-pub placed_large : (base : ℕ) (bytes : List ℕ) (start now_taken next_taken : List Bool) (before now next : Held) {old mid new : Meaning} (blocks : List ℕ) (n : ℕ) → is_large (length bytes) ≡ true → are_below 65536 blocks ≡ true → IsLaid base bytes start now_taken before now old mid blocks → OnePlaced base (flat_map (little_bytes 2) blocks) now_taken next_taken now next mid new n → IsPlaced base bytes start next_taken before next old new (n ∷ [])
-placed_large base bytes start now_taken next_taken before now next blocks n large short was one = record {
+pub placed_large : (base : ℕ) (bytes : List ℕ) (start now_taken next_taken : List Bool) (before now next : Held) {old mid new : Meaning} (blocks : List ℕ) (n : ℕ) → length bytes ≤ 1048576 → is_large (length bytes) ≡ true → are_below 65536 blocks ≡ true → IsLaid base bytes start now_taken before now old mid blocks → OnePlaced base (flat_map (little_bytes 2) blocks) now_taken next_taken now next mid new n → IsPlaced base bytes start next_taken before next old new (n ∷ [])
+placed_large base bytes start now_taken next_taken before now next blocks n few large short was one = record {
   blocks = blocks ++ n ∷ [];
   lays = lays_more base start now_taken next_taken before now next blocks n 1 (λ at. with_kept (base + n) (padded 4096 spelled) at) _ (HasFile base bytes (n ∷ []) (blocks ++ n ∷ [])) was.lays one (one_keeps (base + n) (padded 4096 spelled)) (λ at new is. record {
     reads =
@@ -300,7 +300,7 @@ placed_large base bytes start now_taken next_taken before now next blocks n larg
     index = λ is_so. here at ∙ ap index_bytes (sym (numbers at));
     all = large_blocks base (n ∷ []) size (after at) large ∙ ap (λ ns. ns ++ n ∷ []) (numbers at);
   });
-  count = length-append blocks (n ∷ []) ∙ (ap (λ k. k + 1) was.count ∙ sym (cond-true (is_large size) (blocks_needed size + 1) (blocks_needed size) large));
+  count = length-append blocks (n ∷ []) ∙ (ap (λ k. k + 1) was.count ∙ (sym (cond-true (is_large size) (blocks_needed size + 1) (blocks_needed size) large) ∙ taken_with_index size few));
   slot_len = sym (cond-true (is_large size) 1 (blocks_needed size) large);
   slot_is = sym (cond-true (is_large size) (drop (blocks_needed size) (blocks ++ n ∷ [])) (blocks ++ n ∷ []) large ∙ drop_at blocks (n ∷ []) (blocks_needed size) was.count);
 }

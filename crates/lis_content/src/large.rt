@@ -2,7 +2,7 @@
 
 ghost use Rattle.std.specs.Prelude.{◌≡◌, ◌<◌, ◌≤◌, ℕ, List, None, true, false, length, slice_index, slice_set, IsTrue, IfOk, IfSome, OnOk, OnErr};
 ghost use Rattle.lis_ports.specs.Calls.{ReadsDisk};
-ghost use Rattle.lis_model.specs.State.{blocks_needed, blocks_taken};
+ghost use Rattle.lis_model.specs.State.{blocks_needed};
 ghost use Rattle.lis_journal.specs.Images.{Fits, look, held_in, JournalIsUsable};
 ghost use Rattle.lis_journal.specs.Phases.{looked};
 ghost use Rattle.lis_content.specs.Content.{given, are_within};
@@ -33,15 +33,6 @@ pub fn is_large(size: u32) -> bool
     ensures { result ≡ is_large size }
 {
     size.div_ceil(BLOCK_LEN as u32) > SLOT_BLOCKS
-}
-
-/// How many blocks this many bytes take, the index block among them.
-pub fn blocks_taken(size: u32) -> u32
-    requires { size ≤ MAX_LARGE_FILE }
-    ensures { result ≡ blocks_taken 2 size }
-{
-    let needed = size.div_ceil(BLOCK_LEN as u32);
-    if is_large(size) { needed + 1 } else { needed }
 }
 
 // Reads a block.

@@ -15,12 +15,13 @@ ghost use Rattle.lis_journal.specs.Record.{homes_start};
 
 use crate::blocks::{fill, home};
 use crate::fault::PutFault;
-use crate::large::{blocks_taken, is_large};
+use crate::large::is_large;
 use arrayvec::ArrayVec;
 use lis_blockmap::BlockMap;
 use lis_fields::write_shorts;
 use lis_journal::Journal;
 use lis_limits::{BLOCK_LEN, MAX_BLOCKS, MAX_FILE_BLOCKS, MAX_LARGE_FILE, SLOT_BLOCKS};
+use lis_model::limits::blocks_taken;
 use lis_ports::{Disk, Failed};
 
 // Bytes of the numbers of as many blocks as a content has.
@@ -265,7 +266,7 @@ pub fn place_file<D: Disk>(
     ensures cause { HasPlaceCause (D.meaning disk.old).disk_faults (D.meaning disk.new).disk_faults result }
     ensures first_fault { DiskFaultEnds (D.meaning disk.old) (D.meaning disk.new) }
 {
-    if map.free() < blocks_taken(bytes.len() as u32) {
+    if u64::from(map.free()) < blocks_taken(2, bytes.len() as u64) {
         return Err(PutFault::NoSpace);
     }
     match place_all(map, journal, disk, base, bytes) {

@@ -4,7 +4,6 @@ ghost use Rattle.std.specs.List.Sorted.{IsSearchInRange, IsPartitionPoint};
 ghost use Rattle.std.specs.declared.cmp.Ordering.TheVariants.{Less, Greater};
 ghost use Rattle.lis_limits.specs.declared.TheConstants.{MAX_PROPS};
 ghost use Rattle.lis_words.specs.Words.{is_property, word_cmp, test_of};
-ghost use Rattle.lis_model.specs.Ranges.{is_props_limit};
 ghost use Rattle.lis_dict.specs.Dict.{number_of, word_of, with_entry, without_word, IsDict, Adds};
 ghost use Rattle.lis_dict.specs.Inside.{word_in, dict_of, IsSoundDict};
 
@@ -72,7 +71,7 @@ impl Dict {
 
     /// No words yet, with room for so many.
     pub fn new(alloc: Global, props: u32) -> Result<Dict, AllocError>
-        requires { IsTrue (is_props_limit props) }
+        requires { props ≤ MAX_PROPS }
         ensures { IfOk result (λ d. d ≡ record { props = props; entries = [] }) }
     {
         Ok(Dict {

@@ -1,6 +1,6 @@
 ghost use Rattle.std.specs.Prelude.{◌≡◌, ℕ, ◌<◌, None, Some, is_some, length, replicate, slice_index_or, slice_set, vec_capacity, IsTrue, IfOk, IfErr};
 ghost use Rattle.lis_words.specs.Words.{is_property};
-ghost use Rattle.lis_model.specs.Ranges.{is_props_limit};
+ghost use Rattle.lis_limits.specs.declared.TheConstants.{MAX_PROPS};
 ghost use Rattle.lis_dict.specs.Dict.{HasWords, IsFirstAgain};
 ghost use Rattle.lis_dict.specs.Inside.{IsHeld, RisesByWord, word_in, number_cmp, lower, IsLeastRepeat};
 
@@ -80,7 +80,7 @@ fn first_again(holders: &[Option<Word>], order: &[u32]) -> Option<u32>
 impl Unsorted {
     /// Numbers below `props`, without words.
     pub fn new(alloc: Global, props: u32) -> Result<Unsorted, AllocError>
-        requires { IsTrue (is_props_limit props) }
+        requires { props ≤ MAX_PROPS }
         ensures { IfOk result (λ words. words ≡ replicate props None) }
     {
         Ok(Unsorted {

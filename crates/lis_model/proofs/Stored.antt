@@ -1,11 +1,13 @@
--- Limits of versions 1 and 2.
-use Rattle.std.proofs.Common.{◌≡◌, ℕ, ◌≤◌, ◌%◌, ◌==◌, ◌||◌, ◌&&◌, ◌⊎◌, nat_le, Bool, true, false, IsTrue, inl, inr, sym, subst, refl, arith}
+-- What holds of limits in range, and of those of versions 1 and 2.
+use Rattle.std.proofs.Common.{◌≡◌, ℕ, ◌*◌, ◌≤◌, ◌%◌, ◌==◌, ◌||◌, ◌&&◌, ◌⊎◌, nat_le, Bool, true, false, cond, IsTrue, inl, inr, sym, subst, refl, arith}
 use Rattle.std.specs.List.{list_any, range_with_len}
 use Rattle.std.proofs.lemmas.Bool.{and_parts, or_cases, eqb-true, leb-true}
 use Rattle.std.proofs.lemmas.Bool.Decides.{nat_tests}
-use Rattle.std.specs.Prelude.{◌^◌}
+use Rattle.std.specs.Prelude.{◌^◌, min}
+use Rattle.std.proofs.Math.Nat.{min-le_left}
 use Rattle.lis_model.specs.declared.limits.Limits.{Limits}
-use Rattle.lis_model.specs.Ranges.{is_files_limit, is_props_limit, is_blocks_limit, is_version, are_in_range, are_stored}
+use Rattle.lis_model.specs.Ranges.{most_files, most_props, most_blocks, is_files_limit, is_props_limit, is_blocks_limit, is_version, are_in_range, are_stored}
+use Rattle.lis_model.specs.State.{file_limit}
 
 -- each limit is one of version 2
 pub record StoredParts (limits : Limits) : Type 0 where
@@ -93,3 +95,48 @@ pub few_limits : (limits : Limits) → IsTrue (are_stored limits) → FewLimits 
 few_limits limits h =
     let parts = stored_parts limits h in
     record { files = files_few limits.files parts.files; props = props_few limits.props parts.props; blocks = blocks_few limits.blocks parts.blocks }
+
+-- ---- of every version
+-- no more than in version 3
+pub record WithinMost (limits : Limits) : Type 0 where
+  pub files : limits.files ≤ 262144
+  pub props : limits.props ≤ 1048576
+  pub blocks : limits.blocks ≤ 16777216
+
+pub within_most : (limits : Limits) → IsTrue (are_in_range limits) → WithinMost limits
+within_most limits h =
+    let v = limits.version in
+    let three = and_parts (is_files_limit v limits.files && is_props_limit v limits.props && is_blocks_limit v limits.blocks) (is_version v) h in
+    let two = and_parts (is_files_limit v limits.files && is_props_limit v limits.props) (is_blocks_limit v limits.blocks) three.0 in
+    let one = and_parts (is_files_limit v limits.files) (is_props_limit v limits.props) two.0 in
+    let files = and_parts (list_any (λ k. limits.files == 2 ^ k) (range_with_len 6 13)) (nat_le limits.files (most_files v)) one.0 in
+    let props = and_parts (nat_le 64 limits.props && nat_le limits.props (most_props v)) (limits.props % 64 == 0) one.1 in
+    let few_props = and_parts (nat_le 64 limits.props) (nat_le limits.props (most_props v)) props.0 in
+    let blocks = and_parts (nat_le 1 limits.blocks) (nat_le limits.blocks (most_blocks v)) two.1 in
+    record {
+      files = by (v == 3) limits.files 262144 4096 (omega arith) (leb-true _ _ files.1);
+      props = by (v == 3) limits.props 1048576 8192 (omega arith) (leb-true _ _ few_props.1);
+      blocks = by (v == 3) limits.blocks 16777216 32768 (omega arith) (leb-true _ _ blocks.1);
+    }
+  where
+    by : (three : Bool) (n most few : ℕ) → few ≤ most → n ≤ cond three most few → n ≤ most
+    by true n most few less le = le
+    by false n most few less le = omega (arith, le, less)
+
+pub limit_le : (limits : Limits) → file_limit limits ≤ 67108864
+limit_le limits = by (limits.version == 1) (limits.version == 2)
+  where
+    by : (one two : Bool) → cond one 65536 (cond two 1048576 (min 67108864 (4096 * limits.blocks))) ≤ 67108864
+    by true two = omega arith
+    by false true = omega arith
+    by false false = min-le_left 67108864 (4096 * limits.blocks)
+
+pub stored_limit_le : (limits : Limits) → IsTrue (are_stored limits) → file_limit limits ≤ 1048576
+stored_limit_le limits h = of_version (stored_parts limits h).version
+  where
+    limit_in : ℕ → Type 0
+    limit_in v = cond (v == 1) 65536 (cond (v == 2) 1048576 (min 67108864 (4096 * limits.blocks))) ≤ 1048576
+
+    of_version : (limits.version ≡ 1) ⊎ (limits.version ≡ 2) → limit_in limits.version
+    of_version (inl one) = subst limit_in (sym one) (omega arith)
+    of_version (inr two) = subst limit_in (sym two) (omega arith)

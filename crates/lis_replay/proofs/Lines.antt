@@ -8,6 +8,7 @@ use Rattle.lis_graph.proofs.Members.{Among}
 use Rattle.lis_words.specs.Words.{has_word, head_bytes, is_plain_word, is_head, is_valued, is_word, is_test, is_property, is_file_name}
 use Rattle.lis_words.proofs.Tests.{property_short, word_is_property}
 use Rattle.lis_grammar.proofs.Printed.{decimal_count, decimal_value}
+use Rattle.lis_model.proofs.Stored.{limit_le}
 use Rattle.lis_model.specs.declared.command.Command.TheVariants.{Add}
 use Rattle.lis_model.specs.State.{State, File, WellFormed, is_declarable, is_known_head, is_nameable, file_limit}
 use Rattle.lis_model.specs.Step.{Payload}
@@ -105,29 +106,22 @@ axiom_in_form t formed pair m = (
 )
 
 -- ---- a file
-payload_kept : (bytes : List ℕ) → length bytes ≤ 1048576 → payload_of (length bytes) bytes ≡ payload_with bytes
+payload_kept : (bytes : List ℕ) → length bytes ≤ 67108864 → payload_of (length bytes) bytes ≡ payload_with bytes
 payload_kept bytes few = let kept : nat_le (length bytes) payload_limit ≡ true = le-leb _ _ few in rw kept refl
-
-limit_le : (version : ℕ) → file_limit version ≤ 1048576
-limit_le version = by (version == 2)
-  where
-    by : (two : Bool) → cond two 1048576 65536 ≤ 1048576
-    by true = omega arith
-    by false = omega arith
 
 -- what a file of a well-formed state keeps to
 pub record IsFileInForm (file : File) : Type 0 where
   pub name : is_file_name file.name ≡ true
   pub words : (w : List ℕ) → Among file.assigned w → is_word w ≡ true
   pub few : length file.assigned ≤ 16
-  pub short : length file.bytes ≤ 1048576
+  pub short : length file.bytes ≤ 67108864
 
 pub file_in_form : (t : State) → WellFormed t → (file : File) → Among t.files file → IsFileInForm file
 file_in_form t formed file m = record {
   name = all_among (λ (f : File). is_file_name f.name) t.files file formed.files.names m;
   words = λ w given. (given_words t formed file m w given).form;
   few = leb-true _ _ (all_among (λ (f : File). nat_le (length f.assigned) 16) t.files file formed.files.few_assigned m);
-  short = omega (arith, limit_le t.limits.version, leb-true _ _ (all_among (λ (f : File). nat_le (length f.bytes) (file_limit t.limits)) t.files file formed.files.short m));
+  short = omega (arith, limit_le t.limits, leb-true _ _ (all_among (λ (f : File). nat_le (length f.bytes) (file_limit t.limits)) t.files file formed.files.short m));
 }
 
 module _ (file : File) (formed : IsFileInForm file) where

@@ -1,5 +1,5 @@
 -- How long a dump is: far below the length at which an input is cut.
-use Rattle.std.proofs.Common.{◌≡◌, ℕ, ◌*◌, ◌≤◌, ◌^◌, ◌==◌, ◌%◌, nat_le, true, ◌&&◌, List, [], ◌∷◌, ◌++◌, length, codes, decimal, refl, inl, inr, length-append, arith}
+use Rattle.std.proofs.Common.{◌≡◌, ℕ, ◌*◌, ◌+◌, ◌≤◌, ◌^◌, true, List, [], ◌∷◌, ◌++◌, length, map, sum, codes, decimal, refl, inl, inr, length-append, arith}
 use Rattle.std.specs.List.{flat_map}
 use Rattle.std.proofs.Math.Nat.{mul-suc}
 use Rattle.std.proofs.lemmas.Bool.{and_parts, leb-true}
@@ -8,9 +8,9 @@ use Rattle.std.proofs.lemmas.List.{length-drop}
 use Rattle.lis_graph.proofs.Members.{Among}
 use Rattle.lis_graph.proofs.Sets.{sorted_from_rising, members_le}
 use Rattle.lis_words.specs.Words.{word_cmp, is_word}
-use Rattle.lis_model.specs.Ranges.{is_files_limit, is_props_limit, is_blocks_limit, is_version}
+use Rattle.lis_model.proofs.Stored.{within_most}
 use Rattle.lis_model.specs.Replies.{line}
-use Rattle.lis_model.specs.State.{State, File, WellFormed, is_declarable, description, known, left_words}
+use Rattle.lis_model.specs.State.{State, File, WellFormed, is_declarable, description, known, left_words, blocks_needed, blocks_taken, used_blocks}
 use Rattle.lis_laws.proofs.Members.{word_order, with_words_old}
 use Rattle.lis_laws.proofs.Counts.{all_among}
 use Rattle.lis_laws.proofs.Known.{sorted_known}
@@ -22,23 +22,19 @@ use Rattle.lis_replay.proofs.Lines.{declarable_property, axiom_in_form, IsFileIn
 -- ---- limits
 -- a state has no more of each than these
 record IsSmall (s : State) : Type 0 where
-  declared : length s.declared ≤ 8192
-  axioms : length s.axioms ≤ 8192
-  files : length s.files ≤ 4096
+  declared : length s.declared ≤ 1048576
+  axioms : length s.axioms ≤ 1048576
+  files : length s.files ≤ 262144
+  blocks : used_blocks s ≤ 16777216
 
 small_state : (s : State) → WellFormed s → IsSmall s
 small_state s formed =
-    let three = and_parts (is_files_limit s.limits.files && is_props_limit s.limits.props && is_blocks_limit s.limits.blocks) (is_version s.limits.version) formed.limits in
-    let two = and_parts (is_files_limit s.limits.files && is_props_limit s.limits.props) (is_blocks_limit s.limits.blocks) three.0 in
-    let one = and_parts (is_files_limit s.limits.files) (is_props_limit s.limits.props) two.0 in
-    let props = and_parts (nat_le 64 s.limits.props && nat_le s.limits.props 8192) (s.limits.props % 64 == 0) one.1 in
-    let files : is_files_limit s.limits.files ≡ true = one.0 in
-    let files_most : s.limits.files ≤ 4096 = grind (arith, nat_tests, files) in
-    let props_most = leb-true s.limits.props 8192 (and_parts (nat_le 64 s.limits.props) (nat_le s.limits.props 8192) props.0).1 in
+    let most = within_most s.limits formed.limits in
     record {
-      declared = omega (arith, declared_le, formed.few_known, props_most);
-      axioms = omega (arith, formed.few_axioms, props_most);
-      files = omega (arith, formed.few_files, files_most);
+      declared = omega (arith, declared_le, formed.few_known, most.props);
+      axioms = omega (arith, formed.few_axioms, most.props);
+      files = omega (arith, formed.few_files, most.files);
+      blocks = omega (arith, formed.few_blocks, most.blocks);
     }
   where
     declared_le : length s.declared ≤ length (known s)
@@ -55,7 +51,8 @@ all_short most text (x ∷ xs) each =
 line_short : (word : List ℕ) (words : List (List ℕ)) → AreWords word words → length (words_line (word ∷ words)) ≤ 1025
 line_short word words are = omega (arith, are.short, length-append (joined_with 32 (word ∷ words)) (10 ∷ []))
 
-file_short : (file : File) → IsFileInForm file → length (file_lines file) ≤ 1050627
+-- a file's lines are as long as its bytes, and at most 2,051 bytes more
+file_short : (file : File) → IsFileInForm file → length (file_lines file) ≤ 2051 + length file.bytes
 file_short file formed =
     omega (
       arith,
@@ -64,11 +61,10 @@ file_short file formed =
       length-append (add_lines file) (mv_lines file.name (other_words file)),
     )
   where
-    add_short : length (add_lines file) ≤ 1049602
+    add_short : length (add_lines file) ≤ 1026 + length file.bytes
     add_short =
         omega (
           arith,
-          formed.short,
           line_short (codes "add") (file.name ∷ decimal (length file.bytes) ∷ first_words file) (add_are file formed),
           length-append (words_line (codes "add" ∷ file.name ∷ decimal (length file.bytes) ∷ first_words file)) (line file.bytes),
           length-append file.bytes (10 ∷ []),
@@ -78,6 +74,26 @@ file_short file formed =
     mv_short [] few each = omega arith
     mv_short (word ∷ words) few each = line_short (codes "mv") (file.name ∷ joined_with 47 (word ∷ words) ∷ []) (mv_are file formed word words few each)
 
+-- all bytes of the files are in their blocks
+files_short : (version : ℕ) (files : List File) → ((file : File) → Among files file → IsFileInForm file)
+    → length (flat_map file_lines files) ≤ 2051 * length files + 4096 * sum (map (λ (file : File). blocks_taken version (length file.bytes)) files)
+files_short version [] each = omega arith
+files_short version (file ∷ files) each =
+    omega (
+      arith,
+      mul-suc 2051 (length files),
+      file_short file (each file (inl refl)),
+      in_blocks,
+      files_short version files (λ f m. each f (inr m)),
+      length-append (file_lines file) (flat_map file_lines files),
+    )
+  where
+    n : ℕ
+    n = blocks_needed (length file.bytes)
+
+    in_blocks : length file.bytes ≤ 4096 * blocks_taken version (length file.bytes)
+    in_blocks = let filled : length file.bytes ≤ 4096 * n = omega arith in omega (arith, filled)
+
 pub dump_short : (s : State) → WellFormed s → length (dump_of s) ≤ 2 ^ 40
 unfolding dump_of
 dump_short s formed =
@@ -86,6 +102,7 @@ dump_short s formed =
       small.declared,
       small.axioms,
       small.files,
+      small.blocks,
       mkdirs,
       files,
       axioms,
@@ -100,8 +117,8 @@ dump_short s formed =
     mkdirs = all_short 1025 mkdir_line s.declared
         (λ w m. line_short (codes "mkdir") (w ∷ []) (mkdir_words w (declarable_property w (all_among is_declarable s.declared w formed.declared m))))
 
-    files : length (flat_map file_lines s.files) ≤ 1050627 * length s.files
-    files = all_short 1050627 file_lines s.files (λ f m. file_short f (file_in_form s formed f m))
+    files : length (flat_map file_lines s.files) ≤ 2051 * length s.files + 4096 * used_blocks s
+    files = files_short s.limits.version s.files (λ f m. file_in_form s formed f m)
 
     axioms : length (flat_map axiom_line s.axioms) ≤ 1025 * length s.axioms
     axioms = all_short 1025 axiom_line s.axioms

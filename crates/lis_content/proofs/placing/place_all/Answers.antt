@@ -10,7 +10,7 @@ pub returns-then-not-is_large-clause-ended : goal.returns-then-not-is_large-clau
 returns-then-not-is_large-clause-ended g c =
     let same : c.slot_of.result.items ≡ c.in_ok-numbers.numbers.items = c.slot_of.ensures ∙ c.deref.ensures.0 in
     let small : is_large (length c.args.bytes.now) ≡ false = sym c.is_large.ensures ∙ c.if-not-is_large.true in
-    rw same (placed_small c.args.base c.args.bytes.now c.args.map.now c.place_bytes.new.map c.args.journal.now c.place_bytes.new.journal c.in_ok-numbers.numbers.items small c.in_ok-numbers.ensures.ended)
+    rw same (placed_small c.args.base c.args.bytes.now c.args.map.now c.place_bytes.new.map c.args.journal.now c.place_bytes.new.journal c.in_ok-numbers.numbers.items c.requires.few small c.in_ok-numbers.ensures.ended)
 
 pub place_index-requires-clause-unstaged : goal.place_index-requires-clause-unstaged
 place_index-requires-clause-unstaged g c =
@@ -27,4 +27,4 @@ returns-clause-ended g c =
     let same : c.deref-2.result.now ≡ numbers = c.deref-2.ensures.0 in
     let large : is_large (length c.args.bytes.now) ≡ true = sym c.is_large.ensures ∙ c.if-not-is_large.false in
     let one = subst (λ ns. OnePlaced c.args.base (flat_map (little_bytes 2) ns) c.place_bytes.new.map c.place_index.new.map c.place_bytes.new.journal c.place_index.new.journal (g.D.Disk.meaning c.place_bytes.new.disk) (g.D.Disk.meaning c.place_index.new.disk) c.in_ok-index.index) same c.in_ok-index.ensures.ended in
-    rw c.slot_of-2.ensures (placed_large c.args.base c.args.bytes.now c.args.map.now c.place_bytes.new.map c.place_index.new.map c.args.journal.now c.place_bytes.new.journal c.place_index.new.journal numbers c.in_ok-index.index large c.in_ok-numbers.ensures.short c.in_ok-numbers.ensures.ended one)
+    rw c.slot_of-2.ensures (placed_large c.args.base c.args.bytes.now c.args.map.now c.place_bytes.new.map c.place_index.new.map c.args.journal.now c.place_bytes.new.journal c.place_index.new.journal numbers c.in_ok-index.index c.requires.few large c.in_ok-numbers.ensures.short c.in_ok-numbers.ensures.ended one)

@@ -1,4 +1,4 @@
-use Rattle.std.proofs.Common.{arith, ◌≤◌, ◌*◌}
+use Rattle.std.proofs.Common.{arith}
 use Rattle.std.proofs.lemmas.Nat.{mul-le}
 use Rattle.lis_model.proofs.Stored.{few_limits}
 use Rattle.lis_model.proofs.limits.image_blocks.Goals as goal
