@@ -68,7 +68,11 @@ module _ (p : Metadata) (t : Taxonomy) (held : AreHeld p t) (numbers : List ℕ)
   free_short = search (rules, all_from, lt-ltb, ltb-true, all_among, free_below, few_blocks)
 
   free_in_form : (size : ℕ) → size ≤ file_limit p.limits → length numbers ≡ slot_count size → are_distinct numbers ≡ true → are_blocks p.limits.version size numbers ≡ true
-  free_in_form size few counted apart = search (rules, slot_blocks_counted, and_from, eq-eqb, free_short)
+  free_in_form size few counted apart =
+      and_from ((length numbers == slot_blocks p.limits.version size) && fit (number_width p.limits.version) numbers) (are_distinct numbers)
+      (and_from (length numbers == slot_blocks p.limits.version size) (fit (number_width p.limits.version) numbers)
+      (eq-eqb (length numbers) (slot_blocks p.limits.version size) (counted ∙ sym (slot_blocks_counted p.limits size held.sound.range few)))
+      (subst (λ width. fit width numbers ≡ true) (sym (two_bytes p.limits held.sound.range)) free_short)) apart
 
 -- ---- a content that is placed
 placed_fills : (p : Metadata) (taken : List Bool) (old : Held) (before after : Meaning) (blocks : List ℕ) → Places (data_start p.limits) p.taken taken old before after blocks → Fills blocks p old before after
@@ -170,9 +174,20 @@ pub record PutEnds {T : Type 0} (items : T → List ℕ) (bytes : List ℕ) (k q
   pub held : AreHeld q t
   pub ended : MatchResult put (λ numbers. Puts bytes (items numbers) k q old new before after) (λ fault. PutTorn k q old new before after)
 
--- as many blocks are taken in each version as in version 2, since what is large is of that version
-taken_counted : (version size : ℕ) → size ≤ file_limit version → blocks_taken version size ≡ blocks_taken 2 size
-taken_counted version size few = search (rules, cond-false, small_size)
+-- as many blocks are taken in each version as in version 2, since in version 1 no file is large
+pub taken_counted : (limits : Limits) (size : ℕ) → size ≤ file_limit limits → blocks_taken limits.version size ≡ blocks_taken 2 size
+taken_counted limits size few = by (limits.version == 1) (nat_le n 16) refl few
+  where
+    n : ℕ
+    n = blocks_needed size
+
+    rest : ℕ
+    rest = cond (limits.version == 2) 1048576 (min 67108864 (4096 * limits.blocks))
+
+    by : (one small : Bool) → nat_le n 16 ≡ small → size ≤ cond one 65536 rest → n + cond (one || small) 0 ((n + 1023) / 1024) ≡ n + cond small 0 ((n + 1023) / 1024)
+    by true true e le = refl
+    by true false e le = absurd (omega (arith, le, leb-false n 16 e))
+    by false small e le = refl
 
 -- what a put requires
 pub record MayPut (k : Metadata) (bytes : List ℕ) (old : Held) : Type 0 where
@@ -196,7 +211,7 @@ module _ {T : Type 0} (items : T → List ℕ) (k p : Metadata) (t : Taxonomy) (
   takes_put len = (takes p p t taken marks refl held len are_marks).1
 
   needed_enough : blocks_taken 2 (length bytes) ≤ free_count p.taken
-  needed_enough = subst (λ n. n ≤ free_count p.taken) (taken_counted p.limits.version (length bytes) may.short) may.enough
+  needed_enough = subst (λ n. n ≤ free_count p.taken) (taken_counted p.limits (length bytes) may.short) may.enough
 
   module _ (before after : Meaning) (large : is_large (length bytes) ≡ true) where
     torn_off : IsTornOff (data_start p.limits) p.taken taken old new before after → PutTorn k after_put old new before after

@@ -8,14 +8,40 @@ use Rattle.lis_model.specs.State.{file_limit}
 use Rattle.lis_kept.specs.Sound.{is_sound_record}
 use Rattle.lis_kept.specs.Telling.{bytes_told, blocks_told, HasIndex}
 use Rattle.lis_kept.proofs.Dropped.{record_in_form}
+use Rattle.lis_model.proofs.Stored.{stored_parts}
 
 -- ---- how many numbers a slot has
--- as many in each version as the size requires
-pub slot_blocks_counted : (version size : ℕ) → size ≤ file_limit version → slot_blocks version size ≡ slot_count size
-slot_blocks_counted version size few = search (rules, cond-false, small_size)
+-- as many as the size requires
+pub slot_blocks_counted : (limits : Limits) (size : ℕ) → IsTrue (are_stored limits) → size ≤ file_limit limits → slot_blocks limits.version size ≡ slot_count size
+slot_blocks_counted limits size range few = of_version (stored_parts limits range).version
+  where
+    n : ℕ
+    n = blocks_needed size
 
-pub slot_counted : (version : ℕ) (dict : Dict) (blocks : ℕ) (rec : FileRecord) → is_sound_record version dict blocks rec ≡ true → length rec.blocks ≡ slot_count rec.size
-slot_counted version dict blocks rec sound = search (rules, record_in_form, few_blocks, slot_blocks_counted)
+    within : ℕ → Type 0
+    within v = size ≤ cond (v == 1) 65536 (cond (v == 2) 1048576 (min 67108864 (4096 * limits.blocks)))
+
+    first : size ≤ 65536 → slot_blocks 1 size ≡ slot_count size
+    first le = sym (cond-false (is_large size) 1 n (small_size size le))
+
+    second : (small large : Bool) → nat_le n 16 ≡ small → nat_lt 16 n ≡ large → size ≤ 1048576
+        → cond (cond small 0 ((n + 1023) / 1024) == 0) n (cond small 0 ((n + 1023) / 1024)) ≡ cond large 1 n
+    second true true e f le = absurd (omega (arith, leb-true n 16 e, ltb-true 16 n f))
+    second true false e f le = refl
+    second false true e f le =
+        let one : (n + 1023) / 1024 ≡ 1 = omega (arith, le, ltb-true 16 n f) in subst (λ k. cond (k == 0) n k ≡ 1) (sym one) refl
+    second false false e f le = absurd (omega (arith, leb-false n 16 e, ltb-false 16 n f))
+
+    of_version : (limits.version ≡ 1) ⊎ (limits.version ≡ 2) → slot_blocks limits.version size ≡ slot_count size
+    of_version (inl one) = subst (λ v. slot_blocks v size ≡ slot_count size) (sym one) (first (subst within one few))
+    of_version (inr two) =
+        subst (λ v. slot_blocks v size ≡ slot_count size) (sym two) (second (nat_le n 16) (nat_lt 16 n) refl refl (subst within two few))
+
+pub slot_counted : (limits : Limits) (dict : Dict) (blocks : ℕ) (rec : FileRecord) → IsTrue (are_stored limits) → is_sound_record limits dict blocks rec ≡ true
+    → length rec.blocks ≡ slot_count rec.size
+slot_counted limits dict blocks rec range sound =
+    let form = record_in_form limits dict blocks rec sound in
+    few_blocks limits.version rec.size rec.blocks form.blocks ∙ slot_blocks_counted limits rec.size range form.small
 
 -- ---- a file when other blocks change
 -- A file stays if its blocks hold the same. Its index block is among them.

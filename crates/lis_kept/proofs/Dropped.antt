@@ -20,15 +20,15 @@ use Rattle.lis_kept.proofs.Marking.{block_marked}
 use Rattle.lis_kept.proofs.Filing.{filter-map, catalog_without, filed_rec, filed_slot}
 
 -- a sound record is in the ranges of its layout
-pub record_in_form : (version : ℕ) (dict : Dict) (blocks : ℕ) (rec : FileRecord) → is_sound_record version dict blocks rec ≡ true → IsFileRecord version rec
-record_in_form version dict blocks rec sound =
-    record_tests version rec (record_parts version dict blocks rec sound).0
+pub record_in_form : (limits : Limits) (dict : Dict) (blocks : ℕ) (rec : FileRecord) → is_sound_record limits dict blocks rec ≡ true → IsFileRecord limits rec
+record_in_form limits dict blocks rec sound =
+    record_tests limits rec (record_parts limits dict blocks rec sound).0
 
 -- the blocks of a file are distinct
 pub blocks_apart : (k : Metadata) → AreSound k → (slot : ℕ) (rec : FileRecord) → rec_at k.catalog slot ≡ Some rec → are_distinct rec.blocks ≡ true
 blocks_apart k sound slot rec there =
-    let form = record_in_form k.limits.version k.dict k.limits.blocks rec (sound.records slot rec there) in
-    (and_parts ((length rec.blocks == slot_blocks k.limits.version rec.size) && fit 2 rec.blocks) (are_distinct rec.blocks) form.blocks).1
+    let form = record_in_form k.limits k.dict k.limits.blocks rec (sound.records slot rec there) in
+    (and_parts ((length rec.blocks == slot_blocks k.limits.version rec.size) && fit (number_width k.limits.version) rec.blocks) (are_distinct rec.blocks) form.blocks).1
 
 pub file_slot_below : (k : Metadata) → AreSound k → (slot : ℕ) (rec : FileRecord) → rec_at k.catalog slot ≡ Some rec → slot < k.limits.files
 file_slot_below k sound slot rec there = omega (arith, slot_is_below k.catalog slot sound.catalog (ap is_some there), sound.slots)

@@ -21,8 +21,8 @@ use Rattle.lis_kept.proofs.Dropped.{OneFile, held_then, marks_then, record_in_fo
 use Rattle.lis_model.specs.Sets.{has_number}
 
 -- ---- a sound record
-pub record_named : (version : ℕ) (dict : Dict) (blocks : ℕ) (rec : FileRecord) → is_sound_record version dict blocks rec ≡ true → is_file_name rec.name ≡ true
-record_named version dict blocks rec sound = (record_in_form version dict blocks rec sound).name
+pub record_named : (limits : Limits) (dict : Dict) (blocks : ℕ) (rec : FileRecord) → is_sound_record limits dict blocks rec ≡ true → is_file_name rec.name ≡ true
+record_named limits dict blocks rec sound = (record_in_form limits dict blocks rec sound).name
 
 -- ---- a slot is free if there are fewer files than slots
 unlike_all : (n : ℕ) (ns : List ℕ) → has_number ns n ≡ false → AllByRecursion (λ m. eqb n m ≡ false) ns
@@ -82,7 +82,7 @@ module _ (k p : Metadata) (t : Taxonomy) (slot : ℕ) (rec : FileRecord) (c : Ca
     below = may.below;
     files = ap (λ (x : Catalog). x.files) put;
     catalog = subst (λ (x : Catalog). IsCatalog x) (sym put)
-        (catalog_then p.catalog held.sound.catalog slot rec may.absent (record_named p.limits.version p.dict p.limits.blocks rec may.sound) below_files may.free
+        (catalog_then p.catalog held.sound.catalog slot rec may.absent (record_named p.limits p.dict p.limits.blocks rec may.sound) below_files may.free
         (room_for_file p.catalog held.sound.catalog slot rec may.absent below_files may.free));
     others = λ n differ. rec_then n ∙ ap (λ b. if b then Some rec else rec_at p.catalog n) (ne_eqb slot n (λ e. differ (sym e)));
     sound = λ r is_r. subst (λ (x : FileRecord). is_sound_record p.limits p.dict p.limits.blocks x ≡ true) (same_Some rec r (sym rec_here ∙ is_r)) may.sound;

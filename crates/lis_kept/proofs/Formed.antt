@@ -17,20 +17,20 @@ pub some_word : (o : Option (List ℕ)) → IsSome o → (w : List ℕ) × (o �
 some_word o h = search (rules)
 
 -- ---- what makes a record sound
-pub record_parts : (version : ℕ) (dict : Dict) (blocks : ℕ) (rec : FileRecord) → is_sound_record version dict blocks rec ≡ true
-    → (is_record version rec ≡ true) × (list_all (λ n. is_some (word_of dict n)) rec.tags ≡ true) × (list_all (λ n. nat_lt n blocks) rec.blocks ≡ true)
-record_parts version dict blocks rec sound =
-    let most = and_parts (is_record version rec && list_all (λ n. is_some (word_of dict n)) rec.tags) (list_all (λ n. nat_lt n blocks) rec.blocks) sound in
-    let both = and_parts (is_record version rec) (list_all (λ n. is_some (word_of dict n)) rec.tags) most.0 in
+pub record_parts : (limits : Limits) (dict : Dict) (blocks : ℕ) (rec : FileRecord) → is_sound_record limits dict blocks rec ≡ true
+    → (is_record limits rec ≡ true) × (list_all (λ n. is_some (word_of dict n)) rec.tags ≡ true) × (list_all (λ n. nat_lt n blocks) rec.blocks ≡ true)
+record_parts limits dict blocks rec sound =
+    let most = and_parts (is_record limits rec && list_all (λ n. is_some (word_of dict n)) rec.tags) (list_all (λ n. nat_lt n blocks) rec.blocks) sound in
+    let both = and_parts (is_record limits rec) (list_all (λ n. is_some (word_of dict n)) rec.tags) most.0 in
     (both.0, both.1, most.1)
 
 -- it stays so with another dictionary in which its words have numbers
-pub record_stays : (version : ℕ) (d e : Dict) (blocks : ℕ) (rec : FileRecord) → is_sound_record version d blocks rec ≡ true → list_all (λ n. is_some (word_of e n)) rec.tags ≡ true
-    → is_sound_record version e blocks rec ≡ true
-record_stays version d e blocks rec sound named =
-    let parts = record_parts version d blocks rec sound in
-    and_from (is_record version rec && list_all (λ n. is_some (word_of e n)) rec.tags) (list_all (λ n. nat_lt n blocks) rec.blocks)
-    (and_from (is_record version rec) (list_all (λ n. is_some (word_of e n)) rec.tags) parts.0 named) parts.2
+pub record_stays : (limits : Limits) (d e : Dict) (blocks : ℕ) (rec : FileRecord) → is_sound_record limits d blocks rec ≡ true → list_all (λ n. is_some (word_of e n)) rec.tags ≡ true
+    → is_sound_record limits e blocks rec ≡ true
+record_stays limits d e blocks rec sound named =
+    let parts = record_parts limits d blocks rec sound in
+    and_from (is_record limits rec && list_all (λ n. is_some (word_of e n)) rec.tags) (list_all (λ n. nat_lt n blocks) rec.blocks)
+    (and_from (is_record limits rec) (list_all (λ n. is_some (word_of e n)) rec.tags) parts.0 named) parts.2
 
 module _ (k : Metadata) (sound : AreSound k) where
   -- what has a word is below the limit
@@ -61,7 +61,7 @@ module _ (k : Metadata) (sound : AreSound k) where
     where
       by : (o : Option FileRecord) → rec_at k.catalog n ≡ o → is_file k.limits (file_by o) ≡ true
       by None is = refl
-      by (Some rec) is = (record_parts k.limits.version k.dict k.limits.blocks rec (sound.records n rec is)).0
+      by (Some rec) is = (record_parts k.limits k.dict k.limits.blocks rec (sound.records n rec is)).0
 
   -- if free slots are empty, each number of any slot has a word
   pub named_all : FreeSlotsAreEmpty k → (n slot : ℕ) → has k.ext n slot ≡ true → IsSome (word_of k.dict n)

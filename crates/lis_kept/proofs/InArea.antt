@@ -3,63 +3,47 @@ use Rattle.std.proofs.Common.{arith}
 use Rattle.lis_kept.proofs.Common.{rules, ◌≡◌, ℕ, ◌+◌, ◌*◌, ◌-◌, ◌/◌, ◌%◌, ◌<◌, ◌≤◌, ◌==◌, ◌||◌, Bool, true, List, IsTrue, sym, subst, inl, inr, and_parts, or_cases, eqb-true, Limits, are_stored, bitmap_start, data_start}
 use Rattle.std.proofs.Math.Nat.{div-lt_iff_lt-mul, div-add-mod}
 use Rattle.std.proofs.lemmas.Bool.Decides.{nat_tests}
-use Rattle.lis_model.specs.Ranges.{is_files_limit, is_props_limit, is_blocks_limit}
+use Rattle.lis_model.specs.Ranges.{is_files_limit, is_props_limit}
+use Rattle.lis_fields.specs.Layouts.{number_width}
 use Rattle.lis_model.specs.Image.{axioms_start, files_start, rows_start}
-use Rattle.lis_fields.proofs.Supers.{files_small}
+use Rattle.lis_model.proofs.Stored.{stored_parts, few_limits, files_whole, props_whole, props_some, each_files_limit}
 use Rattle.lis_kept.specs.Metadata.{Metadata}
 use Rattle.lis_kept.specs.Areas.{Area, slots_of, block_of, spelled, held_in, row_slots}
 use Rattle.lis_kept.specs.Areas.Area.{Properties, Axioms, Files, Rows, Bitmap}
 use Rattle.lis_kept.specs.Inside.{bytes_in, IsBlock}
 
 -- ---- limits in range
-limit_parts : (limits : Limits) → IsTrue (are_stored limits) → (is_files_limit limits.files ≡ true) × (is_props_limit limits.props ≡ true) × (is_blocks_limit limits.blocks ≡ true)
-limit_parts limits range = search (rules, and_parts)
+pub files_range : (limits : Limits) → IsTrue (are_stored limits) → is_files_limit 2 limits.files ≡ true
+files_range limits range = (stored_parts limits range).files
 
-pub files_range : (limits : Limits) → IsTrue (are_stored limits) → is_files_limit limits.files ≡ true
-files_range limits range = (limit_parts limits range).0
-
-pub props_range : (limits : Limits) → IsTrue (are_stored limits) → is_props_limit limits.props ≡ true
-props_range limits range = (limit_parts limits range).1
-
-files_whole : (n : ℕ) → is_files_limit n ≡ true → n % 16 ≡ 0
-files_whole n is = grind (arith, nat_tests)
+pub props_range : (limits : Limits) → IsTrue (are_stored limits) → is_props_limit 2 limits.props ≡ true
+props_range limits range = (stored_parts limits range).props
 
 pub whole_files : (limits : Limits) → IsTrue (are_stored limits) → limits.files % 16 ≡ 0
 whole_files limits range = files_whole limits.files (files_range limits range)
 
 pub few_files : (limits : Limits) → IsTrue (are_stored limits) → limits.files ≤ 4096
-few_files limits range = files_small limits.files (files_range limits range)
-
-blocks_few : (n : ℕ) → is_blocks_limit n ≡ true → n ≤ 32768
-blocks_few n is = grind (arith, nat_tests)
-
-props_whole : (n : ℕ) → is_props_limit n ≡ true → n % 64 ≡ 0
-props_whole n is = grind (arith, nat_tests)
-
-props_few : (n : ℕ) → is_props_limit n ≡ true → n ≤ 8192
-props_few n is = grind (arith, nat_tests)
+few_files limits range = (few_limits limits range).files
 
 pub few_blocks : (limits : Limits) → IsTrue (are_stored limits) → limits.blocks ≤ 32768
-few_blocks limits range = blocks_few limits.blocks (limit_parts limits range).2
+few_blocks limits range = (few_limits limits range).blocks
 
 pub whole_properties : (limits : Limits) → IsTrue (are_stored limits) → limits.props % 64 ≡ 0
 whole_properties limits range = props_whole limits.props (props_range limits range)
 
 pub few_properties : (limits : Limits) → IsTrue (are_stored limits) → limits.props ≤ 8192
-few_properties limits range = props_few limits.props (props_range limits range)
-
-props_some : (n : ℕ) → is_props_limit n ≡ true → 64 ≤ n
-props_some n is = grind (arith, nat_tests)
+few_properties limits range = (few_limits limits range).props
 
 pub some_properties : (limits : Limits) → IsTrue (are_stored limits) → 64 ≤ limits.props
 some_properties limits range = props_some limits.props (props_range limits range)
 
--- what holds of each limit of files
-either : (P : ℕ → Type 0) (n m : ℕ) (rest : Bool) → (rest || (n == m)) ≡ true → (rest ≡ true → P n) → P m → P n
-either P n m rest is others here = elim (or_cases rest (n == m) is) [ inl r ↦ others r | inr e ↦ subst P (sym (eqb-true n m e)) here ]
-
-pub each_files_limit : (P : ℕ → Type 0) (n : ℕ) → is_files_limit n ≡ true → P 64 → P 128 → P 256 → P 512 → P 1024 → P 2048 → P 4096 → P n
-each_files_limit P n is p6 p7 p8 p9 p10 p11 p12 = search (rules, either, eqb-true)
+-- numbers have two bytes
+pub two_bytes : (limits : Limits) → IsTrue (are_stored limits) → number_width limits.version ≡ 2
+two_bytes limits range = of_version (stored_parts limits range).version
+  where
+    of_version : (limits.version ≡ 1) ⊎ (limits.version ≡ 2) → number_width limits.version ≡ 2
+    of_version (inl one) = ap number_width one
+    of_version (inr two) = ap number_width two
 
 pub some_rows : (limits : Limits) → IsTrue (are_stored limits) → 0 < 4096 / (limits.files / 8)
 some_rows limits range = search (rules, each_files_limit, files_range)

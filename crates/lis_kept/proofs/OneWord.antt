@@ -41,7 +41,7 @@ unnamed : (k : Metadata) → AreSound k → (number : ℕ) → word_of k.dict nu
 unnamed k sound number free = record {
   sides = no_side k sound number free;
   tags = λ slot rec is. false_from_ne_true (has_number rec.tags number) (λ has_it.
-      let named = (record_parts k.limits.version k.dict k.limits.blocks rec (sound.records slot rec is)).1 in
+      let named = (record_parts k.limits k.dict k.limits.blocks rec (sound.records slot rec is)).1 in
       no_some k sound number free number (all_among (λ n. is_some (word_of k.dict n)) rec.tags number named (among_from_number rec.tags number has_it)) refl);
   had = λ slot file. false_from_ne_true (has k.ext number slot) (λ has_it. no_some k sound number free number (sound.named number slot file has_it) refl);
 }
@@ -124,8 +124,8 @@ module _ (p : Metadata) (sound : AreSound p) {number : ℕ} {d : Dict} {bits mar
     catalog = sound.catalog;
     records = λ slot rec is.
         let was = sound.records slot rec is in
-        record_stays p.limits.version p.dict d p.limits.blocks rec was
-        (all_weaker (λ n. is_some (word_of p.dict n)) (λ n. is_some (word_of d n)) rec.tags (λ n m some. some_stays n (not_tag slot rec is n m) some) (record_parts p.limits.version p.dict p.limits.blocks rec was).1);
+        record_stays p.limits p.dict d p.limits.blocks rec was
+        (all_weaker (λ n. is_some (word_of p.dict n)) (λ n. is_some (word_of d n)) rec.tags (λ n m some. some_stays n (not_tag slot rec is n m) some) (record_parts p.limits p.dict p.limits.blocks rec was).1);
     blocks = sound.blocks;
     rows = sound.rows;
     files = sound.files;

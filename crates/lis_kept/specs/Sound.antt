@@ -14,10 +14,10 @@ use Rattle.lis_model.specs.Image.{data_start}
 use Rattle.lis_kept.specs.Metadata.{Metadata, property_at}
 use Rattle.lis_kept.specs.Areas.{axiom_slots}
 
--- a record in the ranges of the layout of that version, whose words have numbers and whose blocks exist
-abbrev pub is_sound_record : ℕ → Dict → ℕ → FileRecord → Bool
-is_sound_record version dict blocks rec =
-    is_record version rec && list_all (λ n. is_some (word_of dict n)) rec.tags && list_all (λ n. nat_lt n blocks) rec.blocks
+-- a record in the ranges of the layout, whose words have numbers and whose blocks exist
+abbrev pub is_sound_record : Limits → Dict → ℕ → FileRecord → Bool
+is_sound_record limits dict blocks rec =
+    is_record limits rec && list_all (λ n. is_some (word_of dict n)) rec.tags && list_all (λ n. nat_lt n blocks) rec.blocks
 
 -- the numbers of an axiom slot have words, the right one a plain one; slots past the last number are free
 pub record IsSoundAxiom (k : Metadata) (slot p q : ℕ) : Type 0 where

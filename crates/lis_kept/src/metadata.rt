@@ -142,7 +142,7 @@ impl Metadata {
         let rows = rows_start(&self.limits);
         if n < rows {
             let first = FILES_PER_BLOCK * (n - files);
-            write_files(&self.catalog, self.limits.version, first, block);
+            write_files(&self.catalog, &self.limits, first, block);
             return;
         }
         let width = self.limits.files / 8;

@@ -99,15 +99,15 @@ fn file_slot(catalog: &Catalog, number: u32) -> FileSlot
 }
 
 /// Writes the file slots from a number on, as many as a block has.
-pub fn write_files(catalog: &Catalog, version: u32, first: u32, block: &mut [u8])
-    requires records { (n : ℕ) → IsTrue (is_file version (record_at catalog.now n)) }
+pub fn write_files(catalog: &Catalog, limits: &Limits, first: u32, block: &mut [u8])
+    requires records { (n : ℕ) → IsTrue (is_file limits.now (record_at catalog.now n)) }
     requires few { first ≤ MAX_FILES }
     requires whole { length block.old ≡ BLOCK_LEN }
-    ensures { (k : ℕ) → k < FILES_PER_BLOCK → part (FILE_LEN * k) FILE_LEN block.new ≡ file_bytes (record_at catalog.now (first + k)) }
+    ensures { (k : ℕ) → k < FILES_PER_BLOCK → part (FILE_LEN * k) FILE_LEN block.new ≡ file_bytes limits.now.version (record_at catalog.now (first + k)) }
 {
     for k in 0..FILES_PER_BLOCK {
         let at = FILE_LEN * k as usize;
         let slot = file_slot(catalog, first + k);
-        write_file(&slot, &mut block[at..at + FILE_LEN], version);
+        write_file(&slot, &mut block[at..at + FILE_LEN], limits);
     }
 }

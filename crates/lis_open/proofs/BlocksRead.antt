@@ -48,15 +48,19 @@ pub one_property : (limits : Limits) (at : ℕ → List ℕ) (n : ℕ) (a b : Pr
 one_property limits at n a b is_a is_b = prop_once a b is_a.range is_b.range (sym is_a.bytes ∙ is_b.bytes)
 
 pub one_file : (limits : Limits) (at : ℕ → List ℕ) (n : ℕ) (a b : FileSlot) → IsFile limits at n a → IsFile limits at n b → a ≡ b
-one_file limits at n a b is_a is_b = file_once limits.version a b is_a.range is_b.range (sym is_a.bytes ∙ is_b.bytes)
+one_file limits at n a b is_a is_b = file_once limits a b is_a.range is_b.range (sym is_a.bytes ∙ is_b.bytes)
 
 -- ---- the blocks of a file as they are read: those that its slot lists, and those that its index block lists
 -- ---- well-formed records
-pub size_of_form : (version : ℕ) (rec : FileRecord) {seen : FileRecord} → IsTrue (is_record version rec) → seen ≡ rec → seen.size ≤ 1048576
-size_of_form version rec form view = search (rules, size_fits, record_tests)
+pub size_of_form : (limits : Limits) (rec : FileRecord) {seen : FileRecord} → IsTrue (are_stored limits) → IsTrue (is_record limits rec) → seen ≡ rec → seen.size ≤ 1048576
+size_of_form limits rec range form view =
+    omega (arith, stored_limit_le limits range, (record_tests limits rec form).small, ap (λ (r : FileRecord). r.size) view)
 
-pub slot_of_form : (version : ℕ) (rec : FileRecord) {seen : FileRecord} (slot : List ℕ) → IsTrue (is_record version rec) → seen ≡ rec → slot ≡ seen.blocks → length slot ≡ slot_count seen.size
-slot_of_form version rec slot form view same = search (rules, record_tests, few_in_form, slot_blocks_counted)
+pub slot_of_form : (limits : Limits) (rec : FileRecord) {seen : FileRecord} (slot : List ℕ) → IsTrue (are_stored limits) → IsTrue (is_record limits rec) → seen ≡ rec → slot ≡ seen.blocks → length slot ≡ slot_count seen.size
+slot_of_form limits rec slot range form view same =
+    let tests = record_tests limits rec form in
+    ap length same ∙ (ap (λ (r : FileRecord). length r.blocks) view
+    ∙ (few_in_form limits.version rec.size rec.blocks tests.blocks ∙ (slot_blocks_counted limits rec.size range tests.small ∙ ap (λ (r : FileRecord). slot_count r.size) (sym view))))
 
 -- ---- an index block
 pub numbers_counted : {X : Type 0} (found : Option X) (items : X → List ℕ) (size : ℕ) (block : List ℕ)

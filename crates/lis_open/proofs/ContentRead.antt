@@ -77,14 +77,14 @@ block_read staged kept home long size at bytes none sized read =
 
 -- the content of a record's file, by all its blocks
 pub content_of_told : (limits : Limits) (rec : FileRecord) (kept : ℕ → List ℕ) (base count : ℕ) (blocks part : List ℕ) → base ≡ data_start limits → count ≡ blocks_needed rec.size
-    → IsTrue (is_record limits rec) → part ≡ take count blocks → blocks ≡ blocks_told limits kept rec → content base part rec.size kept ≡ bytes_told limits kept rec
-content_of_told limits rec kept base count blocks part from needed form is told =
+    → IsTrue (are_stored limits) → IsTrue (is_record limits rec) → part ≡ take count blocks → blocks ≡ blocks_told limits kept rec → content base part rec.size kept ≡ bytes_told limits kept rec
+content_of_told limits rec kept base count blocks part from needed range form is told =
     ap (λ b. content b part rec.size kept) from
     ∙ ap (λ ns. content (data_start limits) ns rec.size kept)
     (is
     ∙ (ap (λ n. take n blocks) needed
     ∙ (ap (take (blocks_needed rec.size)) told
-    ∙ content_first (data_start limits) rec.blocks rec.size kept (slot_of_form limits.version rec rec.blocks form refl refl))))
+    ∙ content_first (data_start limits) rec.blocks rec.size kept (slot_of_form limits rec rec.blocks range form refl refl))))
 
 pub told_words : (limits : Limits) (rec : FileRecord) (kept : ℕ → List ℕ) (base size : ℕ) (part name bytes : List ℕ) → name ≡ rec.name → size ≡ rec.size
     → content base part rec.size kept ≡ bytes_told limits kept rec → HaveWordsOf name (content base part size kept) bytes → HaveWordsOf rec.name (bytes_told limits kept rec) bytes

@@ -34,7 +34,7 @@ one_contents limits at a b are_a are_b =
     let make : List PropSlot → List AxiomSlot → List FileSlot → Contents = λ ps xs fs. record { properties = ps; axioms = xs; files = fs } in
     ap (λ ps. make ps a.axioms a.files) (one_array prop_bytes is_prop (property_slots limits) at a.properties b.properties prop_once are_a.properties are_b.properties)
     ∙ (ap (λ xs. make b.properties xs a.files) (one_array axiom_bytes is_axiom (axiom_slots limits) at a.axioms b.axioms axiom_once are_a.axioms are_b.axioms)
-    ∙ ap (λ fs. make b.properties b.axioms fs) (one_array (file_bytes limits.version) (is_file limits) (file_slots limits) at a.files b.files (file_once limits.version) are_a.files are_b.files))
+    ∙ ap (λ fs. make b.properties b.axioms fs) (one_array (file_bytes limits.version) (is_file limits) (file_slots limits) at a.files b.files (file_once limits) are_a.files are_b.files))
 
 -- the first slots are the first values
 first_slots : {X : Type 0} (spelled : X → List ℕ) (is_in_range : X → Bool) (slots : Slots) (at : ℕ → List ℕ) (values : List X) (n : ℕ) → n ≤ slots.count
@@ -184,7 +184,7 @@ module _ (limits : Limits) (contents : Contents) (at : ℕ → List ℕ) (spells
   file_in_state rec m = file_there files (file_of_record limits properties at rec) full (map_among (file_of_record limits properties at) records rec m)
 
   file_value : (n : ℕ) (f : FileSlot) → IsFile limits at n f → slice_get contents.files n ≡ Some f
-  file_value = value_at (file_bytes limits.version) (is_file limits) (file_slots limits) at contents.files spells.files (file_once limits.version)
+  file_value = value_at (file_bytes limits.version) (is_file limits) (file_slots limits) at contents.files spells.files (file_once limits)
 
   record_among : (n : ℕ) (rec : FileRecord) → IsFile limits at n (Used rec) → Among records rec
   record_among n rec is = flat_map_among records_in contents.files (Used rec) rec (among_place contents.files n (Used rec) (file_value n (Used rec) is)) (inl refl)

@@ -298,8 +298,8 @@ module _ (limits : Limits) (words : Words) (axioms : Axioms) (files : Files) (ma
   each_file test each =
       list_all-map test (file_told limits words.dict at) files.catalog.entries ∙ all_from (λ (f : Filed). test (file_told limits words.dict at f)) files.catalog.entries each
 
-  entry_record : (f : Filed) → Among files.catalog.entries f → IsFileRecord limits.version f.rec
-  entry_record f m = record_in_form limits.version words.dict limits.blocks f.rec (held_sound.records f.slot f.rec (filed_rec files.catalog held_sound.catalog f m))
+  entry_record : (f : Filed) → Among files.catalog.entries f → IsFileRecord limits f.rec
+  entry_record f m = record_in_form limits words.dict limits.blocks f.rec (held_sound.records f.slot f.rec (filed_rec files.catalog held_sound.catalog f m))
 
   short_bytes : (f : Filed) → length (bytes_told limits at f.rec) ≤ f.rec.size
   short_bytes f = omega (arith, length-take f.rec.size (flat_map (λ b. at (data_start limits + b)) (content_blocks (data_start limits) f.rec.blocks f.rec.size at)))

@@ -165,10 +165,22 @@ pub super_read : (image read : List ℕ) (limits : Limits) → read ≡ part 0 4
 super_read image read limits is told = record { range = told.0; spelled = subst (λ bytes. SpellsSuper limits bytes) is told.1 }
 
 pub none_read : (image read : List ℕ) (found : Option Limits) → found ≡ None → read ≡ part 0 4096 image
-    → ((told : Limits) → IsTrue (are_stored told) → SpellsSuper told read → found ≡ Some told) → (limits : Limits) → HasSuper limits image → ⊥
+    → ((told : Limits) → IsTrue (are_in_range told) → SpellsSuper told read → found ≡ Some told) → (limits : Limits) → HasSuper limits image → ⊥
 none_read image read found none is same limits super =
-    let some = same limits super.range (subst (λ bytes. SpellsSuper limits bytes) (sym is) super.spelled) in
+    let some = same limits (stored_range limits super.range) (subst (λ bytes. SpellsSuper limits bytes) (sym is) super.spelled) in
     cc
+
+-- a super block of a version that is not stored is none
+pub later_read : (image read : List ℕ) (found : Option Limits) (later : Limits) → found ≡ Some later → 2 < later.version → read ≡ part 0 4096 image
+    → ((told : Limits) → IsTrue (are_in_range told) → SpellsSuper told read → found ≡ Some told) → (limits : Limits) → HasSuper limits image → ⊥
+later_read image read found later is_found past is same limits super =
+    let some = same limits (stored_range limits super.range) (subst (λ bytes. SpellsSuper limits bytes) (sym is) super.spelled) in
+    let told : limits ≡ later = some_once limits later (sym some ∙ is_found) in
+    let old = leb-true limits.version 2 (and_parts (are_in_range limits) (nat_le limits.version 2) super.range).1 in
+    omega (arith, past, old, ap (λ (l : Limits). l.version) told)
+  where
+    some_once : (a b : Limits) → Some a ≡ Some b → a ≡ b
+    some_once a b e = cc
 
 -- ---- no super block
 no_super_needs : (old : Meaning) → 4096 ≤ old.len → ((limits : Limits) → HasSuper limits old.bytes → ⊥) → IsLongEnough old

@@ -106,7 +106,7 @@ fn read_slot<D: Disk>(
 {
     let mut bytes = [0; FILE_LEN];
     last.read_slot(disk, journal, files_start(limits), slot, &mut bytes)?;
-    Ok(read_file(&bytes, limits.version))
+    Ok(read_file(&bytes, limits))
 }
 
 fn mark_all(map: &mut BlockMap, blocks: &[u32])

@@ -90,8 +90,8 @@ size_within {k} slot size sound told = by (rec_at k.metadata.catalog slot) refl 
     by : (o : Option FileRecord) → rec_at k.metadata.catalog slot ≡ o → IsSomeAnd o (λ (rec : FileRecord). size ≡ rec.size) → size ≤ payload_limit
     by None is told = absurd told
     by (Some rec) is told =
-        let form = record_in_form k.metadata.limits.version k.metadata.dict k.metadata.limits.blocks rec (sound.metadata.records slot rec is) in
-        omega (arith, told, size_fits k.metadata.limits.version rec.size form.small)
+        let form = record_in_form k.metadata.limits k.metadata.dict k.metadata.limits.blocks rec (sound.metadata.records slot rec is) in
+        omega (arith, told, size_fits k.metadata.limits rec.size form.small)
 
 -- The first blocks of a file are in the payload.
 pub record IsLoaded (k : Stored) (slot size n : ℕ) (old : Meaning) (payload : Payload) : Type 0 where

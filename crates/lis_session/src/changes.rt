@@ -27,7 +27,7 @@ pub fn is_change(command: &Command) -> bool
 pub(crate) fn write_of<'a>(command: &'a Command, payload: &'a Payload) -> Write<'a>
     requires change { is_change command.now ≡ true }
     ensures written { (now : Situation) → written now result ≡ done now command.now payload.now }
-    ensures whole { (version : ℕ) → IsWhole version result }
+    ensures whole { (limits : Limits) → IsWhole limits result }
 {
     let bytes = payload.bytes();
     let size = payload.size();

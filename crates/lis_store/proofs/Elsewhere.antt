@@ -9,7 +9,7 @@ use Rattle.lis_model.specs.Image.{properties_start}
 
 -- a record of memory has as many block numbers as its size requires
 pub numbers_counted : (k : Metadata) → AreSound k → (f : Filed) → Among k.catalog.entries f → length f.rec.blocks ≡ slot_count f.rec.size
-numbers_counted k sound f m = slot_counted k.limits.version k.dict k.limits.blocks f.rec (sound.records f.slot f.rec (filed_rec k.catalog sound.catalog f m))
+numbers_counted k sound f m = slot_counted k.limits k.dict k.limits.blocks f.rec sound.range (sound.records f.slot f.rec (filed_rec k.catalog sound.catalog f m))
 
 -- the blocks of each file hold the same
 abbrev pub AreFilesSame : Metadata → (ℕ → List ℕ) → (ℕ → List ℕ) → Type 0

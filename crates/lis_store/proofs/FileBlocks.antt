@@ -4,6 +4,8 @@ use native.Mathlib.Omega.{arith}
 use Rattle.lis_content.proofs.Files.{length-file_blocks}
 use Rattle.lis_content.proofs.Indexes.{length-numbers_in, large_numbers, large_blocks, small_numbers, small_blocks}
 use Rattle.lis_model.specs.State.{blocks_needed}
+use Rattle.lis_model.proofs.Stored.{stored_limit_le}
+use Rattle.lis_kept.proofs.BlocksTaken.{taken_counted}
 use Rattle.lis_store.proofs.Elsewhere.{numbers_counted}
 use Rattle.lis_store.proofs.Spelled.{sound_parts}
 
@@ -14,10 +16,6 @@ content_told limits at rec = content_blocks (data_start limits) rec.blocks rec.s
 pub content_among : (limits : Limits) (at : ℕ → List ℕ) (rec : FileRecord) (b : ℕ) → Among (content_told limits at rec) b → Among (blocks_told limits at rec) b
 content_among limits at rec b of = grind (arith, common_steps, large_blocks, among_left, large_numbers, small_numbers, small_blocks)
 
--- the index block counts in version 2 alone, where files may have that many blocks
-pub taken_by_version : (version size : ℕ) → size ≤ file_limit version → blocks_taken 2 size ≡ blocks_taken version size
-taken_by_version version size few = grind (arith, common_steps, cond-false, small_size)
-
 module _ (k : Metadata) (sound : AreSound k) (f : Filed) (m : Among k.catalog.entries f) (at : ℕ → List ℕ) where
   pub content_counted : length (content_told k.limits at f.rec) ≡ blocks_needed f.rec.size
   content_counted = grind (arith, common_steps, large_numbers, length-numbers_in, small_numbers, numbers_counted, cond-false)
@@ -25,5 +23,6 @@ module _ (k : Metadata) (sound : AreSound k) (f : Filed) (m : Among k.catalog.en
   -- a file takes as many blocks as it has, its index block among them
   pub told_counted : length (blocks_told k.limits at f.rec) ≡ blocks_taken k.limits.version f.rec.size
   told_counted =
-      length-file_blocks (data_start k.limits) f.rec.blocks f.rec.size at (numbers_counted k sound f m)
-      ∙ taken_by_version k.limits.version f.rec.size (sound_parts k sound f m).short
+      let short = (sound_parts k sound f m).short in
+      length-file_blocks (data_start k.limits) f.rec.blocks f.rec.size at (omega (arith, short, stored_limit_le k.limits sound.range)) (numbers_counted k sound f m)
+      ∙ sym (taken_counted k.limits f.rec.size short)

@@ -35,25 +35,17 @@ all_pass_filter test [] each = refl
 all_pass_filter test (n ∷ ns) each =
     ap (λ b. cond b (n ∷ filter test ns) (filter test ns)) (each n (inl refl)) ∙ ap (λ ms. n ∷ ms) (all_pass_filter test ns (λ m of. each m (inr of)))
 
--- ---- versions
--- a version that is not the second is the first
-pub first_version : (limits : Limits) → are_stored limits ≡ true → (limits.version ≡ 2 → ⊥) → limits.version ≡ 1
-first_version limits range not_two = search (rules, and_parts, or_cases, eqb-true)
-
 -- ---- a file whose blocks are freed
 pub rec_some : (o : Option FileRecord) → IsSome o → (rec : FileRecord) × (o ≡ Some rec)
 rec_some o some = search (rules)
 
 module _ (p mid : Metadata) (slot : ℕ) (rec : FileRecord) (there : rec_at p.catalog slot ≡ Some rec) (sound : AreSound p) (journal : Held) (m : Meaning) (gives : GivesBack rec p mid journal m) (size : ℕ)
-    (not_two : p.limits.version ≡ 2 → ⊥) (enough : blocks_taken p.limits.version size ≤ free_instead p rec) where
-  one : p.limits.version ≡ 1
-  one = first_version p.limits sound.range not_two
-
+    (one : p.limits.version ≡ 1) (enough : blocks_taken p.limits.version size ≤ free_instead p rec) where
   small : is_large rec.size ≡ false
   small =
-      let short = (record_in_form p.limits.version p.dict p.limits.blocks rec (sound.records slot rec there)).small in
-      small_size rec.size (omega (arith, short, ap file_limit one))
+      let short = (record_in_form p.limits p.dict p.limits.blocks rec (sound.records slot rec there)).small in
+      small_size rec.size (omega (arith, short, first_limit p.limits one))
 
   -- in version 1 its blocks count as free
   pub enough_given : blocks_taken mid.limits.version size ≤ free_count mid.taken
-  enough_given = search (rules, free_given, blocks_apart, cond-false, ne_eqb, small)
+  enough_given = search (rules, free_given, blocks_apart, cond-true, eq-eqb, cond-false, small)

@@ -29,7 +29,7 @@ module _ (k : Stored) (sound : IsSound k) (slot : ℕ) (rec : FileRecord) (is_re
 
   pub given_few : length given ≤ 16
   given_few =
-      let few = few_tags rec.tags (record_in_form p.limits.version p.dict p.limits.blocks rec (sound.metadata.records slot rec is_rec)).tags in
+      let few = few_tags rec.tags (record_in_form p.limits p.dict p.limits.blocks rec (sound.metadata.records slot rec is_rec)).tags in
       omega (arith, few, told_few p.dict rec.tags)
 
   -- These words are assignable, since memory represents a state.
@@ -46,4 +46,4 @@ module _ (k : Stored) (sound : IsSound k) (slot : ℕ) (rec : FileRecord) (is_re
   may_stand draft name new set few own few_own small more row = search (rules, there, not-false, ltb-false)
 
   pub sized_small : (size : ℕ) → size ≤ rec.size → size ≤ file_limit p.limits
-  sized_small size sized = omega (arith, sized, (record_in_form p.limits.version p.dict p.limits.blocks rec (sound.metadata.records slot rec is_rec)).small)
+  sized_small size sized = omega (arith, sized, (record_in_form p.limits p.dict p.limits.blocks rec (sound.metadata.records slot rec is_rec)).small)

@@ -34,7 +34,7 @@ module _ (k : Stored) (s : State) (sound : IsSound k) (fits : ToldBy k s) (name 
 
   -- how many blocks are free for other bytes
   pub free_told : free_instead p rec ≡ blocks_for s (file_of s.files name)
-  free_told = by (p.limits.version == 2) refl ∙ sym (ap (λ v. cond (v == 2) (free_blocks s) (free_blocks s + blocks_taken v (length old.bytes))) version)
+  free_told = by (p.limits.version == 1) refl ∙ sym (ap (λ v. cond (v == 1) (free_blocks s + blocks_taken v (length old.bytes)) (free_blocks s)) version)
     where
       f : Filed
       f = record { slot = slot; rec = rec }
@@ -52,20 +52,20 @@ module _ (k : Stored) (s : State) (sound : IsSound k) (fits : ToldBy k s) (name 
       size = ap (λ (x : File). length x.bytes) old_is ∙ size_of_filed k s sound fits f there
 
       -- in version 1 the slot numbers all blocks of the file, and they are taken
-      taken : (p.limits.version == 2) ≡ false → length (filter (is_taken p.taken) rec.blocks) ≡ blocks_taken p.limits.version (length old.bytes)
+      taken : (p.limits.version == 1) ≡ true → length (filter (is_taken p.taken) rec.blocks) ≡ blocks_taken p.limits.version (length old.bytes)
       taken one =
-          let short = (record_in_form p.limits.version p.dict p.limits.blocks rec (sound.metadata.records slot rec is_rec)).small in
-          let small = small_size rec.size (omega (arith, short, cond-false {A = ℕ} (p.limits.version == 2) 1048576 65536 one)) in
+          let short = (record_in_form p.limits p.dict p.limits.blocks rec (sound.metadata.records slot rec is_rec)).small in
+          let small = small_size rec.size (omega (arith, short, first_limit p.limits (eqb-true p.limits.version 1 one))) in
           ap length (all_pass_filter (is_taken p.taken) rec.blocks (λ b of.
           (fits.tells.given f (contains_from_among p.catalog.entries f there) b (number_from_among (blocks_told p.limits fits.kept rec) b (slot_blocks_told p.limits fits.kept rec b of))).1))
           ∙ (ap length (sym (small_blocks (data_start p.limits) rec.blocks rec.size fits.kept small))
           ∙ (told_counted p sound.metadata f there fits.kept ∙ ap (blocks_taken p.limits.version) (sym size)))
 
-      by : (two : Bool) → (p.limits.version == 2) ≡ two
-          → cond two (free_count p.taken) (free_count p.taken + length (filter (is_taken p.taken) rec.blocks))
-          ≡ cond two (free_blocks s) (free_blocks s + blocks_taken p.limits.version (length old.bytes))
-      by true is = free_are k s sound fits
-      by false is = omega (arith, free_are k s sound fits, taken is)
+      by : (one : Bool) → (p.limits.version == 1) ≡ one
+          → cond one (free_count p.taken + length (filter (is_taken p.taken) rec.blocks)) (free_count p.taken)
+          ≡ cond one (free_blocks s + blocks_taken p.limits.version (length old.bytes)) (free_blocks s)
+      by true is = omega (arith, free_are k s sound fits, taken is)
+      by false is = free_are k s sound fits
 
 -- ---- the rows
 module _ (k : Stored) (s : State) (sound : IsSound k) (fits : ToldBy k s) (place : List Formula) (name : List ℕ) (slot : ℕ) (rec : FileRecord)
@@ -111,7 +111,7 @@ module _ (k : Stored) (s : State) (sound : IsSound k) (fits : ToldBy k s) (place
       let version = ap (λ (l : Limits). l.version) (limits_are k s sound fits) in
       let full : Bool × Refusal = (nat_lt (free_instead kept rec) (blocks_taken kept.limits.version size), NoSpace) in
       let full_told : Bool × Refusal = (nat_lt (blocks_for s old) (blocks_taken s.limits.version size), NoSpace) in
-      ap₂ (λ v r. cond (nat_lt (file_limit v) size) (Some LargeFile) r) version
+      ap₂ (λ (l : Limits) r. cond (nat_lt (file_limit l) size) (Some LargeFile) r) (limits_are k s sound fits)
       (here_row (overwriting_checks kept slot rec file size) (room_checks made ++ full_told ∷ []) (λ at.
       instead_row at file (derived_words name bytes) refl made (ap₂ (λ n ws. file_replaced s n (new_file n ws bytes)) (sym (file_of_name s.files name)) (sym (given at))) (gone_free s name)
       (given_assignable k sound slot rec at.1 fits.kept s fits.tells) (full ∷ []) (full_told ∷ [])

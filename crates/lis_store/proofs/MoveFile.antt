@@ -102,7 +102,7 @@ module _ {old now : Stored} (same : old ≡ now) (sound : IsSound old) (place : 
           subst (λ o. IsSomeAnd o (λ (x : FileRecord). MayReplace k slot x told)) (sym there)
           (subst (λ d. MayReplace k slot rec d) (sym told_is)
           (mv_may old sound slot rec there place next name (text_words text) same_name
-          (subst (λ n. is_file_name n ≡ true) same_name (record_named k.limits.version k.dict k.limits.blocks rec (sound.metadata.records slot rec there)))
+          (subst (λ n. is_file_name n ≡ true) same_name (record_named k.limits k.dict k.limits.blocks rec (sound.metadata.records slot rec there)))
           (subst (λ ws. length ws ≤ 128) own_are few) (row ∙ none)))
 
       pub move_holds : {q : Metadata} {blocks : List ℕ} → RefilesIn (record_in k (Some slot)) told blocks k q → ((r : FileRecord) → rec_at k.catalog slot ≡ Some r → blocks ≡ r.blocks) → now.is_broken ≡ false

@@ -29,7 +29,7 @@ one_spelled : (limits : Limits) (a b : Contents) (at : ℕ → List ℕ) (s t : 
 one_spelled limits a b at s t spells_s spells_t =
     let properties = one_array prop_bytes is_prop (property_slots limits) at a.properties b.properties prop_once spells_s.properties spells_t.properties in
     let axioms = one_array axiom_bytes is_axiom (axiom_slots limits) at a.axioms b.axioms axiom_once spells_s.axioms spells_t.axioms in
-    let files = one_array (file_bytes limits.version) (is_file limits) (file_slots limits) at a.files b.files (file_once limits.version) spells_s.files spells_t.files in
+    let files = one_array (file_bytes limits.version) (is_file limits) (file_slots limits) at a.files b.files (file_once limits) spells_s.files spells_t.files in
     let first = ap (λ ps. spelled_state limits (record { properties = ps; axioms = a.axioms; files = a.files }) at) properties in
     let next = ap₂ (λ xs fs. spelled_state limits (record { properties = b.properties; axioms = xs; files = fs }) at) axioms files in
     let same : spelled_state limits a at ≡ spelled_state limits b at = first ∙ next in

@@ -133,13 +133,14 @@ module _ {p : Metadata} (sound : AreSound p) {draft : Draft} (may : MayComeIn p 
 
 -- ---- numbers in their form
 module _ (r : Metadata) (sound : AreSound r) (words : List (List ℕ)) where
-  pub named_tags : length words ≤ 16 → are_tags (numbers_named r.dict words) ≡ true
+  pub named_tags : length words ≤ 16 → are_tags r.limits.version (numbers_named r.dict words) ≡ true
   named_tags few =
-      and_from (nat_le (length (numbers_named r.dict words)) 16 && fit 2 (numbers_named r.dict words)) (is_rising nat_cmp (numbers_named r.dict words))
+      subst (λ width. nat_le (length (numbers_named r.dict words)) 16 && fit width (numbers_named r.dict words) && is_rising nat_cmp (numbers_named r.dict words) ≡ true) (sym (two_bytes r.limits sound.range))
+      (and_from (nat_le (length (numbers_named r.dict words)) 16 && fit 2 (numbers_named r.dict words)) (is_rising nat_cmp (numbers_named r.dict words))
       (and_from (nat_le (length (numbers_named r.dict words)) 16) (fit 2 (numbers_named r.dict words))
       (le-leb (length (numbers_named r.dict words)) 16 (omega (arith, named_few r.dict sound.dict words, few)))
       (all_from (λ n. nat_lt n (2 ^ 16)) (numbers_named r.dict words) (λ n m.
-      lt-ltb n (2 ^ 16) (omega (arith, (among_where r.dict.props (λ k. is_one_of words (word_of r.dict k)) n m).0, sound.numbers, few_properties r.limits sound.range)))))
+      lt-ltb n (2 ^ 16) (omega (arith, (among_where r.dict.props (λ k. is_one_of words (word_of r.dict k)) n m).0, sound.numbers, few_properties r.limits sound.range))))))
       (rising_from_sorted nat_cmp nat_cmp_total (numbers_named r.dict words) (sorted_where r.dict.props (λ n. is_one_of words (word_of r.dict n))))
 
   pub named_rising : IsStrictlyIncreasing (numbers_named r.dict words)
@@ -157,7 +158,7 @@ record_sound {p} {r} {draft} may sound learns blocks formed below =
     let rec = record_of (numbers_named r.dict draft.assigned) draft blocks in
     and_from (is_record r.limits rec && list_all (λ n. is_some (word_of r.dict n)) rec.tags) (list_all (λ n. nat_lt n r.limits.blocks) blocks)
     (and_from (is_record r.limits rec) (list_all (λ n. is_some (word_of r.dict n)) rec.tags)
-    (ap (λ (k : Metadata). is_record k.limits rec) learns.metadata ∙ record_from p.limits.version rec may.name may.small (named_tags r sound draft.assigned may.few) formed)
+    (ap (λ (k : Metadata). is_record k.limits rec) learns.metadata ∙ record_from p.limits rec may.name may.small (named_tags r sound draft.assigned may.few) formed)
     (named_worded r sound draft.assigned))
     (ap (λ (k : Metadata). list_all (λ n. nat_lt n k.limits.blocks) blocks) learns.metadata ∙ below)
 

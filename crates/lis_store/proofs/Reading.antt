@@ -65,7 +65,7 @@ module _ {k : Stored} {slot n : ℕ} {rec : FileRecord} {ns : List ℕ} {size : 
   there = filed_at_slot k.metadata.catalog has.sound.metadata.catalog slot rec has.is_rec
 
   pub block_few : size ≤ 1048576
-  block_few = omega (arith, has.sized, size_fits k.metadata.limits.version rec.size (sound_parts k.metadata has.sound.metadata filed there).short)
+  block_few = omega (arith, has.sized, size_fits k.metadata.limits rec.size (sound_parts k.metadata has.sound.metadata filed there).short)
 
   pub block_counted : length ns ≡ slot_count size
   block_counted = ap length has.numbers ∙ (numbers_counted k.metadata has.sound.metadata filed there ∙ ap slot_count (sym has.sized))

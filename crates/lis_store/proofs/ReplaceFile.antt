@@ -149,7 +149,7 @@ module _ {old now : Stored} (same : old ≡ now) {mid : Metadata} {j : Held} (sl
   mid_first = subst (λ (x : Metadata). MayPut x slot (draft_of file)) (sym renews.metadata) (put_retaken k mid.taken mid.marks slot (draft_of file) first)
 
   pub mid_short : length bytes ≤ 1048576
-  mid_short = size_fits k.limits.version (length bytes) (put_small k slot (draft_of file) first)
+  mid_short = size_fits k.limits (length bytes) (put_small k slot (draft_of file) first)
 
   pub mid_image : shape_of j ≡ shape_of now.journal
   mid_image = renews.image ∙ ap (λ (o : Stored). shape_of o.journal) same

@@ -196,7 +196,7 @@ module _ (file : File) (own : List (List ℕ)) {slot : ℕ} {old : List ℕ} {bl
       assigned = subst (λ (x : State). list_all (is_assignable x.declared) file.assigned ≡ true) tells.state may.assignable;
       few_assigned = may.few;
       few_words = omega (arith, ap (λ (ws : List (List ℕ)). length ws) described_same, may.short);
-      short = subst (λ (x : Limits). length file.bytes ≤ file_limit x.version) limits_are may.small;
+      short = subst (λ (x : Limits). length file.bytes ≤ file_limit x) limits_are may.small;
       few_files = omega (arith, files_counted o at s sound_o vacant.form.free tells, vacant.spare, ap (λ (x : Limits). x.files) limits_are);
       few_known = known_then;
       few_blocks = room;

@@ -65,8 +65,8 @@ sound_parts k sound f m =
     let rec = f.rec in
     let most = and_parts (is_record k.limits rec && list_all (λ n. is_some (word_of k.dict n)) rec.tags) (list_all (λ n. nat_lt n k.limits.blocks) rec.blocks) (sound.records f.slot rec (filed_rec k.catalog sound.catalog f m)) in
     let both = and_parts (is_record k.limits rec) (list_all (λ n. is_some (word_of k.dict n)) rec.tags) most.0 in
-    let form = record_tests k.limits.version rec both.0 in
-    let ns = and_parts ((length rec.blocks == slot_blocks k.limits.version rec.size) && fit 2 rec.blocks) (are_distinct rec.blocks) form.blocks in
+    let form = record_tests k.limits rec both.0 in
+    let ns = and_parts ((length rec.blocks == slot_blocks k.limits.version rec.size) && fit (number_width k.limits.version) rec.blocks) (are_distinct rec.blocks) form.blocks in
     record {
       short = form.small;
       count = few_blocks k.limits.version rec.size rec.blocks form.blocks;

@@ -47,7 +47,7 @@ module _ (k : Stored) (sound : IsSound k) (place : List Formula) (name : List �
   write_first bytes size most long none =
       let file = given_before k.metadata rec name bytes in
       may_stand k sound slot rec there (draft_of file)
-      (subst (λ n. is_file_name n ≡ true) same_name (record_named k.metadata.limits.version k.metadata.dict k.metadata.limits.blocks rec (sound.metadata.records slot rec there))) (λ differ. absurd (differ (sym same_name)))
+      (subst (λ n. is_file_name n ≡ true) same_name (record_named k.metadata.limits k.metadata.dict k.metadata.limits.blocks rec (sound.metadata.records slot rec there))) (λ differ. absurd (differ (sym same_name)))
       (given_set k sound slot rec there) (given_few k sound slot rec there) (derived_own name bytes) (derived_few_own name bytes) (omega (arith, most, long))
       ((nat_lt (free_instead k.metadata rec) (blocks_taken k.metadata.limits.version size), NoSpace) ∷ []) (all_pass (overwriting_checks k.metadata slot rec file size) none)
 
@@ -78,7 +78,7 @@ module _ (k : Stored) (s : State) (sound : IsSound k) (fits : ToldBy k s) (name 
       → used_blocks s + blocks_taken s.limits.version size ≤ s.limits.blocks + blocks_taken s.limits.version (length (bytes_told k.metadata.limits fits.kept rec))
   written_enough size enough =
       let old = file_of s.files name in
-      let most = by (s.limits.version == 2) in
+      let most = by (s.limits.version == 1) in
       omega (
         arith,
         enough,
@@ -89,7 +89,7 @@ module _ (k : Stored) (s : State) (sound : IsSound k) (fits : ToldBy k s) (name 
         ap (λ bs. blocks_taken s.limits.version (length bs)) bytes_are,
       )
     where
-      by : (two : Bool) → cond two (free_blocks s) (free_blocks s + blocks_taken s.limits.version (length (file_of s.files name).bytes))
+      by : (one : Bool) → cond one (free_blocks s + blocks_taken s.limits.version (length (file_of s.files name).bytes)) (free_blocks s)
           ≤ free_blocks s + blocks_taken s.limits.version (length (file_of s.files name).bytes)
       by true = omega arith
       by false = omega arith

@@ -30,7 +30,7 @@ instead_checks k slot draft =
 -- How many blocks are free for new bytes of the file of a record. In version 1 the taken blocks of the file may be used again. In version 2
 -- they stay until the command is done.
 abbrev pub free_instead : Metadata → FileRecord → ℕ
-free_instead k rec = if k.limits.version == 2 then free_count k.taken else free_count k.taken + length (filter (is_taken k.taken) rec.blocks)
+free_instead k rec = if k.limits.version == 1 then free_count k.taken + length (filter (is_taken k.taken) rec.blocks) else free_count k.taken
 
 -- how many blocks are free for a file's bytes, which replace those of the file of a record if there is one
 abbrev pub free_for : Metadata → Option FileRecord → ℕ

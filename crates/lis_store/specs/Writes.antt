@@ -21,9 +21,9 @@ written now (Rename name other) = rename now name.now other.now
 
 -- There are as many bytes as the size says, if a file may have this many.
 abbrev pub IsWhole : ℕ → Write → Type 0
-IsWhole version (Add file) = file.size ≤ file_limit version → length file.bytes.now ≡ file.size
-IsWhole version (WriteBytes name bytes size) = size ≤ file_limit version → length bytes.now ≡ size
-IsWhole version write = ⊤
+IsWhole limits (Add file) = file.size ≤ file_limit limits → length file.bytes.now ≡ file.size
+IsWhole limits (WriteBytes name bytes size) = size ≤ file_limit limits → length bytes.now ≡ size
+IsWhole limits write = ⊤
 
 -- What a refusal leaves of a disk: it makes no disk call, except for `rename`, which reads bytes first.
 abbrev pub LeavesUntouched : {D : Type 0} → (D → Meaning) → Write → D → D → Type 0

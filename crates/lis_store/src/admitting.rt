@@ -6,7 +6,7 @@ ghost use Rattle.lis_words.specs.Words.{is_built_in, is_file_name};
 ghost use Rattle.lis_model.specs.declared.refusal.Refusal.TheVariants.{LargeFile};
 ghost use Rattle.lis_model.specs.Changes.{new_file};
 ghost use Rattle.lis_model.specs.Derived.{derived_words};
-ghost use Rattle.lis_model.specs.State.{file_limit, blocks_taken};
+ghost use Rattle.lis_model.specs.State.{file_limit};
 ghost use Rattle.lis_model.specs.Step.{is_head_or_test, assigned_at};
 ghost use Rattle.lis_store.specs.Drafts.{drafted, draft_of};
 ghost use Rattle.lis_store.specs.Admitting.{named_checks, room_checks, add_checks_of};
@@ -17,36 +17,14 @@ use crate::describing::{Draft, FileWords, measure};
 use arrayvec::ArrayVec;
 use lis_derive::derive_words;
 use lis_kept::Metadata;
-use lis_limits::{BLOCK_LEN, MAX_ASSIGNED, MAX_DESCRIPTION, MAX_FILE, MAX_LARGE_FILE};
+use lis_limits::{MAX_ASSIGNED, MAX_DESCRIPTION};
 use lis_model::command::Tags;
 use lis_model::derived::Derived;
+use lis_model::limits::{blocks_taken, file_limit};
 use lis_model::refusal::Refusal;
 use lis_place::Place;
 use lis_taxonomy::Search;
 use lis_words::{Name, Word, is_builtin, is_head, test_of};
-
-/// How many bytes a file may have.
-pub(crate) fn file_limit(version: u32) -> u64
-    ensures { result ≡ file_limit version }
-{
-    if version == 2 {
-        u64::from(MAX_LARGE_FILE)
-    } else {
-        u64::from(MAX_FILE)
-    }
-}
-
-/// How many blocks this many bytes take.
-pub(crate) fn blocks_taken(version: u32, size: u64) -> u64
-    ensures { result ≡ blocks_taken version size }
-{
-    let blocks = size.div_ceil(BLOCK_LEN as u64);
-    if version == 2 && blocks > 16 {
-        blocks + 1
-    } else {
-        blocks
-    }
-}
 
 /// A file to be made: its name, the named words that are assigned to it, and its bytes. `size` says how many bytes it has.
 #[derive(Clone, Copy)]
@@ -94,7 +72,7 @@ fn may_name(
     ensures name { IfOk result (λ words. IsTrue (is_file_name file.entry.name.now)) }
 {
     let tags = file.tags;
-    if file.size > file_limit(metadata.limits().version) {
+    if file.size > file_limit(metadata.limits()) {
         return Err(Refusal::LargeFile);
     }
     if metadata.slot_of(file.name).is_some() {

@@ -85,7 +85,7 @@ impl Memory {
             (D.meaning disk.old) (D.meaning disk.new) result }
         ensures ends { StepEnded (stored self.new) (D.meaning disk.old) (D.meaning disk.new) result }
     {
-        if self.metadata.limits().version == 2 {
+        if self.metadata.limits().version != 1 {
             let numbers = self.put_content(disk, payload)?;
             self.free_content(disk, slot)?;
             return Ok(numbers);

@@ -15,7 +15,6 @@ ghost use Rattle.lis_store.specs.Changes.{Judges};
 ghost use Rattle.lis_store.specs.Stored.{DescriptionsAreShort};
 ghost use Rattle.lis_store.specs.Instead.{given_before, free_instead, instead_checks, overwriting_checks, renaming_checks};
 
-use crate::admitting::blocks_taken;
 use crate::assigning::{all_assignable, put_word};
 use crate::describing::{Draft, FileWords, measure};
 use arrayvec::ArrayVec;
@@ -118,7 +117,7 @@ fn free_instead(metadata: &Metadata, slot: u32) -> u64
     ensures { (rec : FileRecord) → rec_at metadata.now.catalog slot ≡ Some rec → result ≡ free_instead metadata.now rec }
 {
     let free = u64::from(metadata.free_blocks());
-    if metadata.limits().version == 2 {
+    if metadata.limits().version != 1 {
         return free;
     }
     free + metadata.taken_blocks(slot) as u64

@@ -8,7 +8,6 @@ ghost use Rattle.lis_eval.specs.Room.{HasRoom};
 ghost use Rattle.lis_store.specs.Stored.{StoreHolds, IsUsable};
 ghost use Rattle.lis_store.specs.Changes.{Holds, Ends};
 
-use crate::admitting::file_limit;
 use crate::change_fault::ChangeFault;
 use crate::contents::blocks_in;
 use crate::describing::Draft;
@@ -45,7 +44,7 @@ impl Store {
             self.new (D.meaning disk.old) (D.meaning disk.new) result }
         ensures ends { Ends (disk.new ≡ disk.old) self.old self.new (D.meaning disk.old) (D.meaning disk.new) result }
     {
-        if size > file_limit(self.memory.metadata.limits().version) {
+        if size > file_limit(self.memory.metadata.limits()) {
             return Err(ChangeFault::Refused(Refusal::LargeFile));
         }
         let Some(slot) = self.slot_here(scratch, place, name) else {

@@ -7,11 +7,11 @@ returns-then-not-are_free-clause-found g c = λ kept fits.
     not_own c.args.limits.now kept c.args.map.now c.args.rec.now c.as_slice-slot.result.now c.rec.view_is c.as_slice-slot.ensures.value (sym c.are_free.ensures ∙ c.if-not-are_free.true)
 
 pub all_blocks-requires-clause-few : goal.all_blocks-requires-clause-few
-all_blocks-requires-clause-few g c = size_of_form c.args.limits.now.version c.args.rec.now c.requires.form c.rec.view_is
+all_blocks-requires-clause-few g c = size_of_form c.args.limits.now c.args.rec.now c.requires.readable.range c.requires.form c.rec.view_is
 
 pub all_blocks-requires-clause-count : goal.all_blocks-requires-clause-count
 all_blocks-requires-clause-count g c =
-    slot_of_form c.args.limits.now.version c.args.rec.now c.as_slice-slot.result.now c.requires.form c.rec.view_is c.as_slice-slot.ensures.value
+    slot_of_form c.args.limits.now c.args.rec.now c.as_slice-slot.result.now c.requires.readable.range c.requires.form c.rec.view_is c.as_slice-slot.ensures.value
 
 pub all_blocks-requires-clause-within : goal.all_blocks-requires-clause-within
 all_blocks-requires-clause-within g c =

@@ -1,5 +1,5 @@
 use Rattle.lis_open.proofs.Common.{rules, inr, ◌*◌, arith}
-use Rattle.lis_open.proofs.Opening.{short_opened, no_super_opened, super_read, none_read}
+use Rattle.lis_open.proofs.Opening.{short_opened, no_super_opened, super_read, none_read, later_read}
 use Rattle.lis_open.proofs.mounting.read_limits.Goals as goal
 
 pub returns-in_default-clause-ended : goal.returns-in_default-clause-ended
@@ -7,6 +7,12 @@ returns-in_default-clause-ended g c = λ honest.
     let old = g.D.Disk.meaning c.args.disk.now in
     no_super_opened old (g.D.Disk.meaning c.read_at.new.self) (omega (arith, c.len-len.ensures, c.if-len.false))
     (none_read old.bytes c.read_at.new.buf c.read_super.result c.in_default.is (c.in_ok-read_at.ensures.read honest) c.read_super.ensures.same) (c.read_at.ensures.same honest)
+
+pub returns-then-version-clause-ended : goal.returns-then-version-clause-ended
+returns-then-version-clause-ended g c = λ honest.
+    let old = g.D.Disk.meaning c.args.disk.now in
+    no_super_opened old (g.D.Disk.meaning c.read_at.new.self) (omega (arith, c.len-len.ensures, c.if-len.false))
+    (later_read old.bytes c.read_at.new.buf c.read_super.result c.in-Some.limits c.in-Some.is c.if-version.true (c.in_ok-read_at.ensures.read honest) c.read_super.ensures.same) (c.read_at.ensures.same honest)
 
 pub returns-then-len-need-clause-ended : goal.returns-then-len-need-clause-ended
 returns-then-len-need-clause-ended g c = λ honest.

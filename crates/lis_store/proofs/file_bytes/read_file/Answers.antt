@@ -9,14 +9,14 @@ pub read-requires-clause-short : goal.read-requires-clause-short
 read-requires-clause-short g c =
     let k = c.args.metadata.now in
     let rec = c.in-Some.rec.now in
-    let form = record_in_form k.limits.version k.dict k.limits.blocks rec (c.limits.ensures.sound.records c.args.slot rec c.in-Some.ensures) in
-    omega (arith, size_fits k.limits.version rec.size form.small, ap (λ (r : FileRecord). r.size) c.rec-2.view_is)
+    let form = record_in_form k.limits k.dict k.limits.blocks rec (c.limits.ensures.sound.records c.args.slot rec c.in-Some.ensures) in
+    omega (arith, size_fits k.limits rec.size form.small, ap (λ (r : FileRecord). r.size) c.rec-2.view_is)
 
 pub read-requires-clause-count : goal.read-requires-clause-count
 read-requires-clause-count g c =
     let k = c.args.metadata.now in
     let rec = c.in-Some.rec.now in
-    let counted = slot_counted k.limits.version k.dict k.limits.blocks rec (c.limits.ensures.sound.records c.args.slot rec c.in-Some.ensures) in
+    let counted = slot_counted k.limits k.dict k.limits.blocks rec c.limits.ensures.sound.range (c.limits.ensures.sound.records c.args.slot rec c.in-Some.ensures) in
     ap length (c.as_slice.ensures.value ∙ ap (λ (r : FileRecord). r.blocks) c.rec-2.view_is) ∙ (counted ∙ ap (λ (r : FileRecord). slot_count r.size) (sym c.rec-2.view_is))
 
 pub read-requires-clause-within : goal.read-requires-clause-within

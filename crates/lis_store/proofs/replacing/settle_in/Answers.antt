@@ -56,7 +56,7 @@ place_record-requires-clause-sound c =
     ∙ record_described c.requires.vacant c.requires.may c.learn_own-numbers.ensures.learnt (subst D c.as_slice.ensures.value c.describe.ensures.describes) c.args.blocks.items c.requires.in_form c.requires.below
 
 pub overflow_cast-draft : goal.overflow_cast-draft
-overflow_cast-draft c = omega (arith, size_fits c.args.metadata.now.limits.version c.args.draft.size c.requires.may.small)
+overflow_cast-draft c = omega (arith, size_fits c.args.metadata.now.limits c.args.draft.size c.requires.may.small)
 
 pub returns : goal.returns
 returns c =

@@ -24,8 +24,8 @@ pub drop_large-requires-clause-few : goal.drop_large-requires-clause-few
 drop_large-requires-clause-few g c =
     let k = the_view c.self.inside in
     let sound = c.self.invariant.sound.records c.args.slot c.in-Some.rec.now c.in-Some.ensures in
-    let form = record_in_form k.limits.version k.dict k.limits.blocks c.in-Some.rec.now sound in
-    subst (λ n. n ≤ 1048576) (sym (ap (λ (r : FileRecord). r.size) c.rec-2.view_is)) (size_fits k.limits.version c.in-Some.rec.now.size form.small)
+    let form = record_in_form k.limits k.dict k.limits.blocks c.in-Some.rec.now sound in
+    subst (λ n. n ≤ 1048576) (sym (ap (λ (r : FileRecord). r.size) c.rec-2.view_is)) (size_fits k.limits c.in-Some.rec.now.size form.small)
 
 pub returns-clause-gives : goal.returns-clause-gives
 returns-clause-gives g c = λ rec is.
@@ -39,7 +39,7 @@ returns-clause-gives g c = λ rec is.
 pub drop_large-requires-clause-count : goal.drop_large-requires-clause-count
 drop_large-requires-clause-count g c =
     let k = the_view c.self.inside in
-    let counted = slot_counted k.limits.version k.dict k.limits.blocks c.in-Some.rec.now (c.self.invariant.sound.records c.args.slot c.in-Some.rec.now c.in-Some.ensures) in
+    let counted = slot_counted k.limits k.dict k.limits.blocks c.in-Some.rec.now c.self.invariant.sound.range (c.self.invariant.sound.records c.args.slot c.in-Some.rec.now c.in-Some.ensures) in
     ap length (c.as_slice.ensures.value ∙ ap (λ (r : FileRecord). r.blocks) c.rec-2.view_is) ∙ (counted ∙ ap (λ (r : FileRecord). slot_count r.size) (sym c.rec-2.view_is))
 
 pub invariant_of-self-2 : goal.invariant_of-self-2

@@ -1,19 +1,20 @@
 use Rattle.lis_store.proofs.Common.{◌≡◌, ◌∙◌, ℕ, ◌+◌, ◌==◌, Some, Ok, Err, length, filter, sym, ap, subst, arith, eq-eqb, err_from_is_err_and, is_taken, free_count, rec_at, small_size, Limits, file_limit, Metadata, Held}
-use Rattle.std.proofs.lemmas.Bool.{cond-true}
+use Rattle.std.proofs.lemmas.Bool.{cond-false, ne_eqb}
 use Rattle.lis_kept.specs.Image.{image_shape}
 use Rattle.lis_journal.specs.Journal.{shape_of}
 use Rattle.lis_store.specs.Contents.{ContentPut, ContentRenewed}
-use Rattle.lis_store.proofs.FreeAgain.{rec_some, first_version, enough_given}
+use Rattle.lis_model.proofs.Stored.{first_limit}
+use Rattle.lis_store.proofs.FreeAgain.{rec_some, enough_given}
 use Rattle.lis_store.proofs.Renewed.{renews_placed, lost_last, lost_first, put_last}
 use Rattle.lis_store.proofs.memory.Memory.put_instead.Goals as goal
 
--- ---- in version 2
+-- ---- after version 1
 pub put_content-requires-clause-enough : goal.put_content-requires-clause-enough
 put_content-requires-clause-enough g c =
     let p = c.args.self.now.metadata in
     let found = rec_some (rec_at p.catalog c.args.slot) c.requires.there in
-    let two : p.limits.version ≡ 2 = ap (λ (l : Limits). l.version) (sym c.limits.ensures.value) ∙ c.if-limits-eq2.true in
-    let instead = cond-true (p.limits.version == 2) (free_count p.taken) (free_count p.taken + length (filter (is_taken p.taken) (found.0).blocks)) (eq-eqb p.limits.version 2 two) in
+    let not_one : p.limits.version ≢ 1 = λ one. c.if-limits-ne1.true (ap (λ (l : Limits). l.version) c.limits.ensures.value ∙ one) in
+    let instead = cond-false (p.limits.version == 1) (free_count p.taken + length (filter (is_taken p.taken) (found.0).blocks)) (free_count p.taken) (ne_eqb p.limits.version 1 not_one) in
     omega (arith, c.requires.enough found.0 found.1, instead)
 
 pub returns-in_err-free_content-clause-renewed : goal.returns-in_err-free_content-clause-renewed
@@ -66,7 +67,7 @@ put_content-requires-2-clause-ready g c =
     let same = c.free_content-2.ensures.journal in
     let limits = ap (λ (x : Metadata). x.limits) given.0.takes.metadata in
     record {
-      short = omega (arith, ready.short, ap (λ (l : Limits). file_limit l.version) limits);
+      short = omega (arith, ready.short, ap file_limit limits);
       image = ap shape_of same ∙ (ready.image ∙ sym (ap image_shape limits));
       usable = record {
         unbroken = ap (λ (j : Held). j.is_broken) same ∙ ready.usable.unbroken;
@@ -84,7 +85,7 @@ put_content-requires-2-clause-enough g c =
     let found = rec_some (rec_at p.catalog c.args.slot) c.requires.there in
     enough_given p c.free_content-2.new.self.metadata c.args.slot found.0 found.1 c.limits.ensures.sound c.args.self.now.journal (g.D.Disk.meaning c.args.disk.now)
     (c.in_ok-free_content-2.ensures.given found.0 found.1).0 (length c.args.payload.now)
-    (λ two. c.if-limits-eq2.false (ap (λ (l : Limits). l.version) c.limits.ensures.value ∙ two)) (c.requires.enough found.0 found.1)
+    (ap (λ (l : Limits). l.version) (sym c.limits.ensures.value) ∙ c.if-limits-ne1.false) (c.requires.enough found.0 found.1)
 
 pub returns-clause-renewed : goal.returns-clause-renewed
 returns-clause-renewed g c = λ rec there.
@@ -94,9 +95,9 @@ returns-clause-renewed g c = λ rec there.
     let asked = g.D.Disk.meaning c.free_content-2.new.disk in
     let after = g.D.Disk.meaning c.put_content-2.new.disk in
     let given = c.in_ok-free_content-2.ensures.given rec there in
-    let one = first_version p.metadata.limits c.limits.ensures.sound.range (λ two. c.if-limits-eq2.false (ap (λ (l : Limits). l.version) c.limits.ensures.value ∙ two)) in
+    let one = ap (λ (l : Limits). l.version) (sym c.limits.ensures.value) ∙ c.if-limits-ne1.false in
     let P : Held → Type 0 = λ j. ContentPut c.args.payload.now mid.metadata q.metadata j q.journal asked after c.put_content-2.result in
     put_last p.metadata mid.metadata q.metadata rec c.args.payload.now p.journal q.journal
     (g.D.Disk.meaning c.args.disk.now) asked after c.put_content-2.result
-    c.limits.ensures.sound c.requires.ready.unplaced (small_size (length c.args.payload.now) (omega (arith, c.requires.ready.short, ap file_limit one))) given.0 given.1
+    c.limits.ensures.sound c.requires.ready.unplaced (small_size (length c.args.payload.now) (omega (arith, c.requires.ready.short, first_limit p.metadata.limits one))) given.0 given.1
     (subst P c.free_content-2.ensures.journal c.put_content-2.ensures.put) c.put_content-2.ensures.torn

@@ -14,12 +14,12 @@ use Rattle.lis_store.proofs.store.Store.put_file.Goals as goal
 pub overflow_cast-payload : goal.overflow_cast-payload
 overflow_cast-payload g c =
     let file = new_file c.args.name.now c.args.words.now.assigned.items c.args.payload.now in
-    omega (arith, size_fits c.args.self.now.metadata.limits.version (length c.args.payload.now) (anew_small {old = c.args.self.now} refl c.args.slot (draft_of file) c.requires.may.0))
+    omega (arith, size_fits c.args.self.now.metadata.limits (length c.args.payload.now) (anew_small {old = c.args.self.now} refl c.args.slot (draft_of file) c.requires.may.0))
 
 pub is_large-requires : goal.is_large-requires
 is_large-requires g c =
     let file = new_file c.args.name.now c.args.words.now.assigned.items c.args.payload.now in
-    omega (arith, size_fits c.args.self.now.metadata.limits.version (length c.args.payload.now) (anew_small {old = c.args.self.now} refl c.args.slot (draft_of file) c.requires.may.0))
+    omega (arith, size_fits c.args.self.now.metadata.limits (length c.args.payload.now) (anew_small {old = c.args.self.now} refl c.args.slot (draft_of file) c.requires.may.0))
 
 pub returns-in_err-commit : goal.returns-in_err-commit
 returns-in_err-commit g c =

@@ -11,7 +11,7 @@ pub returns-in_default-clause-holds : goal.returns-in_default-clause-holds
 returns-in_default-clause-holds g c = λ base s holds.
     let payload : Payload = record { size = c.args.size; bytes = c.args.payload.now } in
     let sound = subst (λ (k : Stored). IsSound k) c.self.view_is c.self.invariant in
-    let small : c.args.size ≤ file_limit c.args.self.now.metadata.limits = omega (arith, c.if-size-file_limit.false, c.file_limit.ensures, ap (λ (l : Limits). file_limit l.version) c.limits.ensures.value, ap (λ (k : Stored). file_limit k.metadata.limits) c.self.view_is) in
+    let small : c.args.size ≤ file_limit c.args.self.now.metadata.limits = omega (arith, c.if-size-file_limit.false, c.file_limit.ensures, ap file_limit c.limits.ensures.value, ap (λ (k : Stored). file_limit k.metadata.limits) c.self.view_is) in
     written_nowhere c.args.self.now (g.D.Disk.meaning c.args.disk.now) c.args.place.now c.args.name.now _ sound base s holds payload small (sym c.in_default.ensures.here) refl
 
 pub may_write-requires-clause-there : goal.may_write-requires-clause-there
@@ -28,7 +28,7 @@ returns-in_err-words g c =
     let old = stored c.self.inside.memory in
     let named = ap (λ (k : Stored). slot_of k.metadata.catalog c.args.name.now) c.self.view_is ∙ c.in-Some.ensures.slot in
     let found = found_there c.self.view_is c.self.invariant c.args.name.now c.in-Some.ensures.slot in
-    let small : c.args.size ≤ file_limit c.self.inside.memory.metadata.limits = omega (arith, c.if-size-file_limit.false, c.file_limit.ensures, ap (λ (l : Limits). file_limit l.version) c.limits.ensures.value) in
+    let small : c.args.size ≤ file_limit c.self.inside.memory.metadata.limits = omega (arith, c.if-size-file_limit.false, c.file_limit.ensures, ap file_limit c.limits.ensures.value) in
     let here = ap (λ (k : Stored). is_among k.metadata c.args.place.now c.args.name.now) c.self.view_is ∙ sym c.in-Some.ensures.here in
     let P : Stored → Type 0 = λ k. StoreHolds k m base s in
     let Q : Stored → Type 0 = λ k. Holds base now (write now c.args.name.now payload) k m m c.from_residual.result in
@@ -40,7 +40,7 @@ returns-in_err-words g c =
 
 pub put_file-requires-clause-may : goal.put_file-requires-clause-may
 put_file-requires-clause-may g c =
-    let small : c.args.size ≤ file_limit c.self.inside.memory.metadata.limits = omega (arith, c.if-size-file_limit.false, c.file_limit.ensures, ap (λ (l : Limits). file_limit l.version) c.limits.ensures.value) in
+    let small : c.args.size ≤ file_limit c.self.inside.memory.metadata.limits = omega (arith, c.if-size-file_limit.false, c.file_limit.ensures, ap file_limit c.limits.ensures.value) in
     (write_asks c.self.view_is c.self.invariant c.args.place.now c.args.name.now c.in-Some.ensures.slot c.in-Some.ensures.here c.args.payload.now small c.requires.whole c.in_ok-words.ensures.row c.in_ok-words.ensures.words refl).0
 
 pub returns-clause-holds : goal.returns-clause-holds
@@ -48,7 +48,7 @@ returns-clause-holds g c = λ base s holds.
     let m = g.D.Disk.meaning c.args.disk.now in
     let now : Situation = record { state = s; place = c.args.place.now } in
     let file = new_file c.args.name.now c.in_ok-words.words.assigned.items c.args.payload.now in
-    let small : c.args.size ≤ file_limit c.self.inside.memory.metadata.limits = omega (arith, c.if-size-file_limit.false, c.file_limit.ensures, ap (λ (l : Limits). file_limit l.version) c.limits.ensures.value) in
+    let small : c.args.size ≤ file_limit c.self.inside.memory.metadata.limits = omega (arith, c.if-size-file_limit.false, c.file_limit.ensures, ap file_limit c.limits.ensures.value) in
     let asks = write_asks c.self.view_is c.self.invariant c.args.place.now c.args.name.now c.in-Some.ensures.slot c.in-Some.ensures.here c.args.payload.now small c.requires.whole c.in_ok-words.ensures.row c.in_ok-words.ensures.words refl in
     let does = write_does c.self.view_is c.self.invariant c.args.place.now c.args.name.now c.in-Some.ensures.slot c.in-Some.ensures.here c.args.payload.now small c.requires.whole c.in_ok-words.ensures.row c.in_ok-words.ensures.words m base s holds in
     let O : Outcome → Type 0 = λ o. Holds base now o c.put_file.new.self m (g.D.Disk.meaning c.put_file.new.disk) c.put_file.result in
