@@ -1,4 +1,4 @@
-ghost use Rattle.std.specs.Prelude.{◌≡◌, ◌<◌, [], length, None, Some, is_none, is_some, vec_capacity, replicate, slice_get, slice_index_or, position, IsTrue, IsSome, IfSome, IfNone, IfOk, MatchOption, MatchResult};
+ghost use Rattle.std.specs.Prelude.{◌≡◌, ◌<◌, ◌≤◌, [], length, None, Some, is_none, is_some, vec_capacity, replicate, slice_get, slice_index_or, position, IsTrue, IsSome, IfSome, IfNone, IfOk, MatchOption, MatchResult};
 ghost use Rattle.std.specs.Option.{option_map};
 ghost use Rattle.std.specs.List.Sorted.{IsSearchInRange};
 ghost use Rattle.lis_words.specs.Words.{is_file_name};

@@ -1,4 +1,4 @@
-ghost use Rattle.std.specs.Prelude.{◌≡◌, ℕ, ◌<◌, None, Some, is_some, length, replicate, slice_index_or, slice_set, vec_capacity, IsTrue, IfOk, IfErr};
+ghost use Rattle.std.specs.Prelude.{◌≡◌, ℕ, ◌<◌, ◌≤◌, None, Some, is_some, length, replicate, slice_index_or, slice_set, vec_capacity, IsTrue, IfOk, IfErr};
 ghost use Rattle.lis_words.specs.Words.{is_file_name};
 ghost use Rattle.lis_limits.specs.declared.TheConstants.{MAX_FILES};
 ghost use Rattle.lis_catalog.specs.Catalog.{HasRecords, IsFirstAgain};

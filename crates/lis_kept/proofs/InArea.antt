@@ -45,6 +45,10 @@ two_bytes limits range = of_version (stored_parts limits range).version
     of_version (inl one) = ap number_width one
     of_version (inr two) = ap number_width two
 
+-- how large a file may be in version 1
+pub first_limit : (limits : Limits) → limits.version ≡ 1 → file_limit limits ≡ 65536
+first_limit limits one = ap (λ v. cond (v == 1) 65536 (cond (v == 2) 1048576 (min 67108864 (4096 * limits.blocks)))) one
+
 pub some_rows : (limits : Limits) → IsTrue (are_stored limits) → 0 < 4096 / (limits.files / 8)
 some_rows limits range = search (rules, each_files_limit, files_range)
 

@@ -140,6 +140,3 @@ stored_limit_le limits h = of_version (stored_parts limits h).version
     of_version : (limits.version ≡ 1) ⊎ (limits.version ≡ 2) → limit_in limits.version
     of_version (inl one) = subst limit_in (sym one) (omega arith)
     of_version (inr two) = subst limit_in (sym two) (omega arith)
-
-pub first_limit : (limits : Limits) → limits.version ≡ 1 → file_limit limits ≡ 65536
-first_limit limits one = ap (λ v. cond (v == 1) 65536 (cond (v == 2) 1048576 (min 67108864 (4096 * limits.blocks)))) one

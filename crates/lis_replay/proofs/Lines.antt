@@ -1,5 +1,5 @@
 -- Each line of a dump spells its item.
-use Rattle.std.proofs.Common.{◌≡◌, ◌⊎◌, ℕ, ◌<◌, ◌≤◌, ◌^◌, ◌==◌, nat_lt, nat_le, Bool, true, false, cond, ◌&&◌, ◌||◌, Some, Ok, List, [], ◌∷◌, length, codes, decimal, refl, ap, subst, ◌∙◌, inl, inr, length-append, arith}
+use Rattle.std.proofs.Common.{◌≡◌, ◌⊎◌, ℕ, ◌<◌, ◌≤◌, ◌^◌, nat_lt, nat_le, true, false, ◌&&◌, ◌||◌, Some, Ok, List, [], ◌∷◌, length, codes, decimal, refl, ap, subst, ◌∙◌, inl, inr, length-append, arith}
 use Rattle.std.specs.List.{list_all}
 use Rattle.std.proofs.lemmas.Bool.{and_parts, or_cases, or_left, or_right, false_from_ne_true, leb-true, le-leb, ltb-true}
 use Rattle.std.proofs.lemmas.Fmt.{length-decimal-le}

@@ -2,8 +2,6 @@
 use Rattle.std.proofs.Common.{◌≡◌, ℕ, ◌*◌, ◌+◌, ◌≤◌, ◌^◌, true, List, [], ◌∷◌, ◌++◌, length, map, sum, codes, decimal, refl, inl, inr, length-append, arith}
 use Rattle.std.specs.List.{flat_map}
 use Rattle.std.proofs.Math.Nat.{mul-suc}
-use Rattle.std.proofs.lemmas.Bool.{and_parts, leb-true}
-use Rattle.std.proofs.lemmas.Bool.Decides.{nat_tests}
 use Rattle.std.proofs.lemmas.List.{length-drop}
 use Rattle.lis_graph.proofs.Members.{Among}
 use Rattle.lis_graph.proofs.Sets.{sorted_from_rising, members_le}
@@ -16,6 +14,7 @@ use Rattle.lis_laws.proofs.Counts.{all_among}
 use Rattle.lis_laws.proofs.Known.{sorted_known}
 use Rattle.lis_replay.specs.Dump.{joined_with, words_line, mkdir_line, axiom_line, other_words, first_words, add_lines, mv_lines, file_lines, dump_of}
 use Rattle.lis_replay.proofs.Lists.{among_drop}
+use Rattle.std.proofs.lemmas.List.Sums.{sum_by-cons}
 use Rattle.lis_replay.proofs.Spelled.{AreWords}
 use Rattle.lis_replay.proofs.Lines.{declarable_property, axiom_in_form, IsFileInForm, file_in_form, mkdir_words, axiom_words, add_are, mv_are}
 
@@ -86,6 +85,7 @@ files_short version (file ∷ files) each =
       in_blocks,
       files_short version files (λ f m. each f (inr m)),
       length-append (file_lines file) (flat_map file_lines files),
+      sum_by-cons (λ k. k) (blocks_taken version (length file.bytes)) (map (λ (f : File). blocks_taken version (length f.bytes)) files),
     )
   where
     n : ℕ

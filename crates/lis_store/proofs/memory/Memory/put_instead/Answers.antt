@@ -3,7 +3,7 @@ use Rattle.std.proofs.lemmas.Bool.{cond-false, ne_eqb}
 use Rattle.lis_kept.specs.Image.{image_shape}
 use Rattle.lis_journal.specs.Journal.{shape_of}
 use Rattle.lis_store.specs.Contents.{ContentPut, ContentRenewed}
-use Rattle.lis_model.proofs.Stored.{first_limit}
+use Rattle.lis_kept.proofs.InArea.{first_limit}
 use Rattle.lis_store.proofs.FreeAgain.{rec_some, enough_given}
 use Rattle.lis_store.proofs.Renewed.{renews_placed, lost_last, lost_first, put_last}
 use Rattle.lis_store.proofs.memory.Memory.put_instead.Goals as goal
