@@ -17,6 +17,7 @@ use Rattle.lis_model.specs.declared.refusal.Refusal.TheVariants.{NoFileHere, Lar
 use Rattle.lis_model.specs.Changes.{new_file, has_name, file_of, file_replaced}
 use Rattle.lis_model.specs.Listing.{extension, holds_all}
 use Rattle.lis_model.specs.Replies.{ok_line, refusal_line}
+use Rattle.lis_model.proofs.Stored.{limit_le}
 use Rattle.lis_model.specs.Script.{payload_limit, payload_of}
 use Rattle.lis_model.specs.State.{State, File, WellFormed, file_cmp, file_limit, blocks_taken, description, known}
 use Rattle.lis_model.specs.Step.{Situation, Outcome, refused, changed, judged, free_blocks, blocks_for, exceeds_file, exceeds_known, exceeds_words, is_here, write_checks, write_with, write}
@@ -92,9 +93,9 @@ row_left : (now : Situation) (done : Outcome) (large nowhere many crowded full :
     → judged now ((large, LargeFile) ∷ (nowhere, NoFileHere) ∷ (many, LargeDescription) ∷ (crowded, NoPropertyRoom) ∷ (full, NoSpace) ∷ []) done ≡ cond full (refused now NoSpace) done
 row_left now done large nowhere many crowded full a b c d = rw (a, b, c, d) refl
 
-space_is : (two : Bool) (free taken : ℕ) → nat_lt (cond two free (free + taken)) taken ≡ (two && nat_lt free taken)
-space_is true free taken = refl
-space_is false free taken = le-ltb (free + taken) taken (omega arith)
+space_is : (one : Bool) (free taken : ℕ) → nat_lt (cond one (free + taken) free) taken ≡ (not one && nat_lt free taken)
+space_is true free taken = le-ltb (free + taken) taken (omega arith)
+space_is false free taken = refl
 
 answers : (now : Situation) (full : Bool) → cond full (refused now NoSpace) (changed now now.state) ≡ only_shows (cond full (refusal_line NoSpace) ok_line) now
 answers now true = refl
@@ -112,10 +113,6 @@ module _ (s : State) (formed : WellFormed s) (name : List ℕ) (has : has_name s
 
   short : length old.bytes ≤ file_limit s.limits
   short = leb-true _ _ (all_among (λ (f : File). nat_le (length f.bytes) (file_limit s.limits)) s.files old formed.files.short there)
-
-  limit_le : (two : Bool) → cond two 1048576 65536 ≤ payload_limit
-  limit_le true = omega arith
-  limit_le false = omega arith
 
   not_large : exceeds_file s (length old.bytes) ≡ false
   not_large = le-ltb (file_limit s.limits) (length old.bytes) short
@@ -141,10 +138,10 @@ module _ (s : State) (formed : WellFormed s) (name : List ℕ) (has : has_name s
   write_same : write (root_of s) name (payload_of (length old.bytes) old.bytes) ≡ only_shows (space_line s old) (root_of s)
   write_same =
       ap (λ bytes. write_with (root_of s) old (new_file old.name old.assigned bytes) (length old.bytes))
-      (ap (λ b. cond b old.bytes []) (le-leb (length old.bytes) payload_limit (omega (arith, short, limit_le (s.limits.version == 2)))))
+      (ap (λ b. cond b old.bytes []) (le-leb (length old.bytes) payload_limit (omega (arith, short, limit_le s.limits))))
       ∙ (ap (λ (made : State). judged (root_of s) (write_checks (root_of s) old made (length old.bytes)) (changed (root_of s) made)) same_state
       ∙ (row_left (root_of s) (changed (root_of s) s) _ _ _ _ (nat_lt (blocks_for s old) (blocks_taken s.limits.version (length old.bytes))) not_large here few_words few_known
-      ∙ (ap (λ full. cond full (refused (root_of s) NoSpace) (changed (root_of s) s)) (space_is (s.limits.version == 2) (free_blocks s) (blocks_taken s.limits.version (length old.bytes)))
+      ∙ (ap (λ full. cond full (refused (root_of s) NoSpace) (changed (root_of s) s)) (space_is (s.limits.version == 1) (free_blocks s) (blocks_taken s.limits.version (length old.bytes)))
       ∙ answers (root_of s) (lacks_space s old))))
 
 -- ---- a view that is put back

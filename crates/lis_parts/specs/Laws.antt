@@ -1,5 +1,5 @@
 -- What happens to a view that is put back as it was shown.
-use Rattle.std.specs.Prelude.{◌≡◌, ℕ, ◌==◌, nat_lt, Bool, ◌&&◌, if◌then◌else◌, List, length}
+use Rattle.std.specs.Prelude.{◌≡◌, ℕ, ◌==◌, nat_lt, Bool, not, ◌&&◌, if◌then◌else◌, List, length}
 use Rattle.lis_model.specs.declared.refusal.Refusal.TheVariants.{NoSpace}
 use Rattle.lis_model.specs.State.{State, File, WellFormed, blocks_taken}
 use Rattle.lis_model.specs.Changes.{file_of}
@@ -10,10 +10,10 @@ use Rattle.lis_session.specs.Parts.{only_shows}
 use Rattle.lis_session.specs.Session.{root_of}
 use Rattle.lis_parts.specs.Commands.{formula_of, done_of, view, put}
 
--- Too few blocks are free for the file's bytes a second time. Version 2 keeps the old blocks until the new ones are written, and version 1
--- writes over them.
+-- Too few blocks are free for the file's bytes a second time. Version 1 writes over the old blocks, and later versions keep them until the new
+-- ones are written.
 abbrev pub lacks_space : State → File → Bool
-lacks_space s file = (s.limits.version == 2) && nat_lt (free_blocks s) (blocks_taken s.limits.version (length file.bytes))
+lacks_space s file = not (s.limits.version == 1) && nat_lt (free_blocks s) (blocks_taken s.limits.version (length file.bytes))
 
 abbrev pub space_line : State → File → List ℕ
 space_line s file = if lacks_space s file then refusal_line NoSpace else ok_line

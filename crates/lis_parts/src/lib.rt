@@ -15,8 +15,8 @@ pub use putting::put_file;
 pub use viewing::view_file;
 pub use workspace::Workspace;
 
-/// A view that is put back unchanged leaves the state of a store. The reply is the refusal that the view has, or `ok`, or, in version 2,
-/// the refusal for lack of space, if fewer blocks are free than the file takes.
+/// A view that is put back unchanged leaves the state of a store. The reply is the refusal that the view has, or `ok`, or, after
+/// version 1, the refusal for lack of space, if fewer blocks are free than the file takes.
 pub fn unchanged_view_leaves()
     ensures { UnchangedViewLeaves }
 {}
