@@ -9,6 +9,7 @@ use Rattle.lis_fields.specs.Records.{FileRecord}
 use Rattle.lis_fields.specs.declared.slots.AxiomSlot.TheVariants.{Pair}
 use Rattle.lis_fields.specs.Layouts.{is_prop, is_record}
 use Rattle.lis_words.specs.Words.{is_plain_word, is_valued, head_bytes}
+use Rattle.lis_model.specs.declared.limits.Limits.{Limits}
 use Rattle.lis_model.specs.Ranges.{are_stored}
 use Rattle.lis_model.specs.Image.{data_start}
 use Rattle.lis_kept.specs.Metadata.{Metadata, property_at}
