@@ -14,6 +14,7 @@ use lis_limits::{
     AXIOM_LEN, AXIOMS_PER_BLOCK, BLOCK_LEN, FILE_LEN, FILES_PER_BLOCK, MAX_FILES, MAX_PROPS,
     PROP_LEN, PROPERTIES_PER_BLOCK,
 };
+use lis_model::limits::Limits;
 
 // The property slot of a number.
 fn property_slot(dict: &Dict, declared: &Flags, number: u32) -> PropSlot
