@@ -1,5 +1,5 @@
 pub mod Widths
-pub mod TwoBytes
+pub mod NumberLists
 pub mod Texts
 pub mod Pairs
 pub mod Runs

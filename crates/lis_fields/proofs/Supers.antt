@@ -1,11 +1,13 @@
 -- The parts of a super block, read back from their spelling, and what another gate makes of one.
 use Rattle.std.proofs.Common.{◌≡◌, refl, sym, ap, ◌∙◌, subst, ℕ, ◌^◌, ◌%◌, ◌<◌, ◌≤◌, ◌==◌, nat_le, Bool, true, false, if◌then◌else◌, ◌&&◌, inl, inr, ◌⊎◌, List, ◌∷◌, ◌++◌, length, get_or, take, drop, IsTrue, arith}
-use Rattle.std.proofs.lemmas.Bool.{and_parts, and_from, or_cases, eqb-true, leb-true}
+use Rattle.std.specs.List.{list_any, range_with_len}
+use Rattle.std.proofs.lemmas.Bool.{and_parts, and_from, eqb-true, leb-true}
 use Rattle.std.proofs.lemmas.Bool.Decides.{nat_tests}
 use Rattle.std.proofs.lemmas.List.{drop_more}
 use Rattle.lis_model.specs.declared.limits.Limits.{Limits}
-use Rattle.lis_model.specs.Ranges.{is_files_limit, is_props_limit, is_blocks_limit, is_version, are_in_range}
-use Rattle.lis_fields.specs.Layouts.{zeros, super_start, super_numbers, gate_version, version_gate, super_with, super_bytes, SpellsSuper}
+use Rattle.lis_model.specs.Ranges.{most_files, most_props, most_blocks, is_files_limit, is_props_limit, is_blocks_limit, is_version, are_in_range, are_stored}
+use Rattle.lis_model.proofs.Stored.{stored_parts, stored_range}
+use Rattle.lis_fields.specs.Layouts.{zeros, super_start, super_numbers, gate_version, is_gate, version_gate, super_with, super_bytes, SpellsSuper}
 use Rattle.lis_fields.proofs.Widths.{joined, same_number, length_zeros}
 
 -- each limit has four bytes
@@ -14,20 +16,24 @@ pub record FitsSuper (limits : Limits) : Type 0 where
   pub props : limits.props < 256 ^ 4
   pub blocks : limits.blocks < 256 ^ 4
 
-pub files_small : (n : ℕ) → is_files_limit n ≡ true → n ≤ 4096
-files_small n h = grind (arith, nat_tests)
+most_of : (version few many n : ℕ) → nat_le n (if version == 3 then many else few) ≡ true → few ≤ many → n ≤ many
+most_of version few many n le less = by (version == 3) le
+  where
+    by : (three : Bool) → nat_le n (if three then many else few) ≡ true → n ≤ many
+    by true all = leb-true n many all
+    by false all = let most = leb-true n few all in omega (arith, most, less)
 
 pub super_fits : (limits : Limits) → IsTrue (are_in_range limits) → FitsSuper limits
 super_fits limits h =
-    let three = and_parts (is_files_limit limits.files && is_props_limit limits.props && is_blocks_limit limits.blocks) (is_version limits.version) h in
-    let two = and_parts (is_files_limit limits.files && is_props_limit limits.props) (is_blocks_limit limits.blocks) three.0 in
-    let one = and_parts (is_files_limit limits.files) (is_props_limit limits.props) two.0 in
-    let props = and_parts (nat_le 64 limits.props && nat_le limits.props 8192) (limits.props % 64 == 0) one.1 in
-    let blocks = and_parts (nat_le 1 limits.blocks) (nat_le limits.blocks 32768) two.1 in
-    let files_most = files_small limits.files one.0 in
-    let props_most = leb-true limits.props 8192 (and_parts (nat_le 64 limits.props) (nat_le limits.props 8192) props.0).1 in
-    let blocks_most = leb-true limits.blocks 32768 blocks.1 in
-    record { files = omega (arith, files_most); props = omega (arith, props_most); blocks = omega (arith, blocks_most) }
+    let v = limits.version in
+    let three = and_parts (is_files_limit v limits.files && is_props_limit v limits.props && is_blocks_limit v limits.blocks) (is_version v) h in
+    let two = and_parts (is_files_limit v limits.files && is_props_limit v limits.props) (is_blocks_limit v limits.blocks) three.0 in
+    let one = and_parts (is_files_limit v limits.files) (is_props_limit v limits.props) two.0 in
+    let files = most_of v 4096 262144 limits.files (and_parts (list_any (λ k. limits.files == 2 ^ k) (range_with_len 6 13)) (nat_le limits.files (most_files v)) one.0).1 (omega arith) in
+    let props = and_parts (nat_le 64 limits.props && nat_le limits.props (most_props v)) (limits.props % 64 == 0) one.1 in
+    let props = most_of v 8192 1048576 limits.props (and_parts (nat_le 64 limits.props) (nat_le limits.props (most_props v)) props.0).1 (omega arith) in
+    let blocks = most_of v 32768 16777216 limits.blocks (and_parts (nat_le 1 limits.blocks) (nat_le limits.blocks (most_blocks v)) two.1).1 (omega arith) in
+    record { files = omega (arith, files); props = omega (arith, props); blocks = omega (arith, blocks) }
 
 abbrev limits_of : ℕ → ℕ → ℕ → ℕ → Limits
 limits_of version files props blocks = record { files = files; props = props; blocks = blocks; version = version }
@@ -47,7 +53,7 @@ length_super gate limits = omega (arith, length_zeros 4071)
 
 -- the parts of a super block
 pub record SuperParts (bytes : List ℕ) (gate : ℕ) (limits : Limits) : Type 0 where
-  pub start : take 12 bytes ≡ super_start
+  pub start : take 12 bytes ≡ super_start limits.version
   pub spelled : take 12 (drop 12 bytes) ≡ super_numbers limits
   pub end : drop 12 (drop 12 bytes) ≡ gate ∷ zeros 4071
 
@@ -59,26 +65,50 @@ super_parts bytes gate limits e =
 pub super_joined : (bytes : List ℕ) (gate : ℕ) (limits : Limits) → SuperParts bytes gate limits → bytes ≡ super_with gate limits
 unfolding super_with
 super_joined bytes gate limits parts =
-    joined 12 bytes super_start (super_numbers limits ++ gate ∷ zeros 4071) parts.start (joined 12 (drop 12 bytes) (super_numbers limits) (gate ∷ zeros 4071) parts.spelled parts.end)
+    joined 12 bytes (super_start limits.version) (super_numbers limits ++ gate ∷ zeros 4071) parts.start (joined 12 (drop 12 bytes) (super_numbers limits) (gate ∷ zeros 4071) parts.spelled parts.end)
 
--- the gate that is written gives the version
-gate_tells : (version : ℕ) → IsTrue (is_version version) → gate_version (version_gate version) ≡ version
+-- ---- versions
+versions : (n : ℕ) → is_version n ≡ true → (n ≡ 1) ⊎ (n ≡ 2) ⊎ (n ≡ 3)
+versions n is = grind (arith, nat_tests)
+
+-- the gate that is written is one of the version
+gate_tells : (version : ℕ) → IsTrue (is_version version) → IsTrue (is_gate version (version_gate version))
 gate_tells version h =
-    elim (or_cases (version == 1) (version == 2) h) [
-      | inl one ↦ subst (λ v. gate_version (version_gate v) ≡ v) (sym (eqb-true version 1 one)) refl
-      | inr two ↦ subst (λ v. gate_version (version_gate v) ≡ v) (sym (eqb-true version 2 two)) refl
+    elim (versions version h) [
+      | inl one ↦ subst (λ v. IsTrue (is_gate v (version_gate v))) (sym one) refl
+      | inr (inl two) ↦ subst (λ v. IsTrue (is_gate v (version_gate v))) (sym two) refl
+      | inr (inr three) ↦ subst (λ v. IsTrue (is_gate v (version_gate v))) (sym three) refl
     ]
+
+-- the gate of an earlier version gives it
+gate_gives : (version gate : ℕ) → (version == 3) ≡ false → IsTrue (is_gate version gate) → gate_version gate ≡ version
+gate_gives version gate not_3 is =
+    eqb-true (gate_version gate) version (subst (λ b. (if b then gate == 0 else gate_version gate == version) ≡ true) not_3 is)
+
+-- how a super block begins and its gate give its version
+pub same_version : (a b gate : ℕ) → super_start a ≡ super_start b → IsTrue (is_gate a gate) → IsTrue (is_gate b gate) → a ≡ b
+same_version a b gate start of_a of_b = by (a == 3) (b == 3) refl refl (ap (λ xs. get_or xs 8 0) start)
+  where
+    by : (x y : Bool) → (a == 3) ≡ x → (b == 3) ≡ y → (if x then 3 else 1) % 256 ≡ (if y then 3 else 1) % 256 → a ≡ b
+    by true true p q e = eqb-true a 3 p ∙ sym (eqb-true b 3 q)
+    by true false p q e = absurd (omega (arith, e))
+    by false true p q e = absurd (omega (arith, e))
+    by false false p q e = sym (gate_gives a gate p of_a) ∙ gate_gives b gate q of_b
 
 -- what is written is a spelling
 pub super_spells : (limits : Limits) → IsTrue (are_in_range limits) → SpellsSuper limits (super_bytes limits)
 super_spells limits h =
-    let three = and_parts (is_files_limit limits.files && is_props_limit limits.props && is_blocks_limit limits.blocks) (is_version limits.version) h in
-    record { gate = version_gate limits.version; tells = gate_tells limits.version three.1; spelled = refl }
+    let v = limits.version in
+    let three = and_parts (is_files_limit v limits.files && is_props_limit v limits.props && is_blocks_limit v limits.blocks) (is_version v) h in
+    record { gate = version_gate v; tells = gate_tells v three.1; spelled = refl }
 
 -- limits of version 2 have no other spelling
 pub super_of_version_2 : (limits : Limits) (bytes : List ℕ) → limits.version ≡ 2 → SpellsSuper limits bytes → bytes ≡ super_bytes limits
-super_of_version_2 limits bytes two is = is.spelled ∙ ap (λ gate. super_with gate limits) (gate_is (is.gate == 2) refl (is.tells ∙ two) ∙ sym (ap version_gate two))
+super_of_version_2 limits bytes two is = is.spelled ∙ ap (λ gate. super_with gate limits) (gate_is (is.gate == 2) refl told ∙ sym (ap version_gate two))
   where
+    told : gate_version is.gate ≡ 2
+    told = eqb-true (gate_version is.gate) 2 (subst (λ version. IsTrue (is_gate version is.gate)) two is.tells)
+
     gate_is : (b : Bool) → (is.gate == 2) ≡ b → ◌≡◌ {A = ℕ} (if b then 2 else 1) 2 → is.gate ≡ 2
     gate_is true e told = eqb-true is.gate 2 e
     gate_is false e told = absurd (omega (arith, told))
@@ -91,20 +121,45 @@ spelling_length limits bytes is = ap length is.spelled ∙ length_super is.gate 
 abbrev pub with_version : ℕ → Limits → Limits
 with_version version limits = limits_of version limits.files limits.props limits.blocks
 
--- with another byte 24, a spelling is one of the same limits in the version of this byte
-pub super_regated : (gate : ℕ) (limits : Limits) (bytes : List ℕ) → SpellsSuper limits bytes → SpellsSuper (with_version (gate_version gate) limits) (take 24 bytes ++ (gate ∷ drop 25 bytes))
+-- ---- from version 1 to version 2
+-- a gate is one of the version that it gives
+gate_own : (gate : ℕ) → IsTrue (is_gate (gate_version gate) gate)
+gate_own gate = by (gate == 2) refl
+  where
+    by : (two : Bool) → (gate == 2) ≡ two → IsTrue (is_gate (if two then 2 else 1) gate)
+    by true e = ap (λ b. (if b then 2 else 1) == 2) e
+    by false e = ap (λ b. (if b then 2 else 1) == 1) e
+
+-- a super block of version 1 begins as one of any gate's version
+start_alike : (gate : ℕ) → super_start 1 ≡ super_start (gate_version gate)
+start_alike gate = by (gate == 2)
+  where
+    by : (two : Bool) → super_start 1 ≡ super_start (if two then 2 else 1)
+    by true = refl
+    by false = refl
+
+-- with another byte 24, a spelling of version 1 is one of the same limits in the version of this byte
+pub super_regated : (gate : ℕ) (limits : Limits) (bytes : List ℕ) → limits.version ≡ 1 → SpellsSuper limits bytes
+    → SpellsSuper (with_version (gate_version gate) limits) (take 24 bytes ++ (gate ∷ drop 25 bytes))
 unfolding super_with
-super_regated gate limits bytes is = record { gate = gate; tells = refl; spelled = ap (λ xs. take 24 xs ++ (gate ∷ drop 25 xs)) is.spelled }
+super_regated gate limits bytes one is =
+    record {
+      gate = gate;
+      tells = gate_own gate;
+      spelled =
+          ap (λ xs. take 24 xs ++ (gate ∷ drop 25 xs)) is.spelled
+          ∙ ap (λ start. start ++ (super_numbers limits ++ gate ∷ zeros 4071)) (ap super_start one ∙ start_alike gate);
+    }
 
 -- with 2 there it is one of version 2
-pub super_upgraded : (limits : Limits) (bytes : List ℕ) → SpellsSuper limits bytes → SpellsSuper (with_version 2 limits) (take 24 bytes ++ (2 ∷ drop 25 bytes))
-super_upgraded limits bytes is = super_regated 2 limits bytes is
+pub super_upgraded : (limits : Limits) (bytes : List ℕ) → limits.version ≡ 1 → SpellsSuper limits bytes → SpellsSuper (with_version 2 limits) (take 24 bytes ++ (2 ∷ drop 25 bytes))
+super_upgraded limits bytes one is = super_regated 2 limits bytes one is
 
 -- what differs from a spelling of version 1 only in byte 24, which may be anything, is a spelling of the same limits, or of these in
 -- version 2
 pub super_torn : (limits : Limits) (old new : List ℕ) → limits.version ≡ 1 → SpellsSuper limits old → length new ≡ length old → take 24 new ≡ take 24 old → drop 25 new ≡ drop 25 old
     → SpellsSuper limits new ⊎ SpellsSuper (with_version 2 limits) new
-super_torn limits old new one is len front behind = by (gate == 2) (subst (λ xs. SpellsSuper (with_version (gate_version gate) limits) xs) (sym whole) (super_regated gate limits old is))
+super_torn limits old new one is len front behind = by (gate == 2) (subst (λ xs. SpellsSuper (with_version (gate_version gate) limits) xs) (sym whole) (super_regated gate limits old one is))
   where
     gate : ℕ
     gate = get_or new 24 0
@@ -118,8 +173,15 @@ super_torn limits old new one is len front behind = by (gate == 2) (subst (λ xs
     by true spells = inr spells
     by false spells = inl (subst (λ l. SpellsSuper l new) (ap (λ version. with_version version limits) (sym one)) spells)
 
--- limits in range are so in version 2
-pub upgraded_in_range : (limits : Limits) → IsTrue (are_in_range limits) → IsTrue (are_in_range (with_version 2 limits))
-upgraded_in_range limits h =
-    let three = and_parts (is_files_limit limits.files && is_props_limit limits.props && is_blocks_limit limits.blocks) (is_version limits.version) h in
-    and_from (is_files_limit limits.files && is_props_limit limits.props && is_blocks_limit limits.blocks) (is_version 2) three.0 refl
+-- limits of version 1 or 2 are so in version 2
+pub upgraded_stored : (limits : Limits) → IsTrue (are_stored limits) → IsTrue (are_stored (with_version 2 limits))
+upgraded_stored limits h =
+    let parts = stored_parts limits h in
+    and_from (are_in_range (with_version 2 limits)) (nat_le 2 2)
+    (and_from (is_files_limit 2 limits.files && is_props_limit 2 limits.props && is_blocks_limit 2 limits.blocks) (is_version 2)
+    (and_from (is_files_limit 2 limits.files && is_props_limit 2 limits.props) (is_blocks_limit 2 limits.blocks)
+    (and_from (is_files_limit 2 limits.files) (is_props_limit 2 limits.props) parts.files parts.props) parts.blocks) refl) refl
+
+pub upgraded_in_range : (limits : Limits) → limits.version ≡ 1 → IsTrue (are_in_range limits) → IsTrue (are_in_range (with_version 2 limits))
+upgraded_in_range limits one h =
+    stored_range (with_version 2 limits) (upgraded_stored limits (and_from (are_in_range limits) (nat_le limits.version 2) h (subst (λ version. nat_le version 2 ≡ true) (sym one) refl)))

@@ -7,5 +7,5 @@ pub record FileRecord : Type 0 where
   pub size : ℕ
   -- the slot numbers of the words that the file was assigned
   pub tags : List ℕ
-  -- the numbers of the data blocks of its bytes, in order; if they are more than 16, only that of the index block
+  -- the numbers of the data blocks of its bytes, in order; if they are more than 16, those of its index blocks
   pub blocks : List ℕ

@@ -3,10 +3,10 @@
 ghost use Rattle.std.specs.Prelude.{◌+◌, ◌≡◌, ℕ, ◌*◌, ◌≤◌, ◌==◌, List, length, IfSome, IsSomeAnd, IsTrue};
 ghost use Rattle.std.specs.List.{list_all, flat_map};
 ghost use Rattle.byteorder.specs.Endian.{little_bytes};
-ghost use Rattle.lis_fields.specs.Layouts.{text_bytes, zeros, numbers};
-ghost use Rattle.lis_model.specs.Sets.{are_short};
+ghost use Rattle.lis_fields.specs.Layouts.{text_bytes, zeros, number_width, numbers};
+ghost use Rattle.lis_model.specs.Sets.{fit};
 
-use crate::numbers::{read_shorts, write_shorts};
+use crate::numbers::{number_width, read_wide, write_wide};
 use arrayvec::ArrayVec;
 use byteorder::{ByteOrder, LittleEndian};
 use lis_limits::MAX_WORD;
@@ -20,8 +20,13 @@ pub const TEXT_FIELD: usize = MAX_WORD + 1;
 /// The most numbers of a field of numbers.
 const MAX_NUMBERS: usize = 16;
 
-/// How many bytes a field of numbers has.
-pub const NUMBERS_FIELD: usize = 32;
+/// How many bytes a field of numbers has in an image of that version.
+pub fn numbers_field(version: u32) -> usize
+    ensures len { result ≡ MAX_NUMBERS * number_width version }
+    ensures few { result ≤ 64 }
+{
+    MAX_NUMBERS * number_width(version)
+}
 
 /// Whether all bytes are zero.
 pub fn are_zeros(bytes: &[u8]) -> bool
@@ -84,47 +89,47 @@ pub fn write_text(text: &[u8], field: &mut [u8])
     write_zeros(padding);
 }
 
-fn read_list(bytes: &[u8], count: usize) -> ArrayVec<u32, 16>
+fn read_list(bytes: &[u8], count: usize, version: u32) -> ArrayVec<u32, 16>
     requires count { count ≤ MAX_NUMBERS }
-    requires len { length bytes.now ≡ 2 * count }
+    requires len { length bytes.now ≡ number_width version * count }
     ensures len { length result.items ≡ count }
-    ensures short { IsTrue (are_short result.items) }
-    ensures spelled { bytes.now ≡ flat_map (little_bytes 2) result.items }
+    ensures fit { IsTrue (fit (number_width version) result.items) }
+    ensures spelled { bytes.now ≡ flat_map (little_bytes (number_width version)) result.items }
 {
     let mut held = [0; MAX_NUMBERS];
     let (used, _) = held.split_at_mut(count);
-    read_shorts(bytes, used);
+    read_wide(bytes, used, version);
     let mut numbers = ArrayVec::new();
     numbers.try_extend_from_slice(used).unwrap();
     numbers
 }
 
-/// The `count` numbers of a field of 32 bytes. None exactly if the field spells no such numbers.
-pub fn read_numbers(field: &[u8], count: usize) -> Option<ArrayVec<u32, 16>>
-    requires { length field.now ≡ 32 }
-    ensures spelled { IfSome result (λ found.
-        (length found.items ≡ count) × (count ≤ MAX_NUMBERS) × IsTrue (are_short found.items) × (field.now ≡ numbers found.items)) }
-    ensures same { (ns : List ℕ) → length ns ≡ count → count ≤ MAX_NUMBERS → IsTrue (are_short ns) → field.now ≡ numbers ns
-        → IsSomeAnd result (λ found. found.items ≡ ns) }
+/// The `count` numbers of a field for up to 16. None exactly if the field spells no such numbers.
+pub fn read_numbers(field: &[u8], count: usize, version: u32) -> Option<ArrayVec<u32, 16>>
+    requires { length field.now ≡ MAX_NUMBERS * number_width version }
+    ensures spelled { IfSome result (λ found. (length found.items ≡ count) × (count ≤ MAX_NUMBERS)
+        × IsTrue (fit (number_width version) found.items) × (field.now ≡ numbers (number_width version) found.items)) }
+    ensures same { (ns : List ℕ) → length ns ≡ count → count ≤ MAX_NUMBERS → IsTrue (fit (number_width version) ns)
+        → field.now ≡ numbers (number_width version) ns → IsSomeAnd result (λ found. found.items ≡ ns) }
 {
     if count > MAX_NUMBERS {
         return None;
     }
-    let (start, padding) = field.split_at(2 * count);
+    let (start, padding) = field.split_at(number_width(version) * count);
     if !are_zeros(padding) {
         return None;
     }
-    Some(read_list(start, count))
+    Some(read_list(start, count, version))
 }
 
-/// Writes numbers into a field of 32 bytes.
+/// Writes numbers into a field for up to 16.
 #[tactic(auto, unfolding(crate::specs::Layouts::zeros))]
-pub fn write_numbers(list: &[u32], field: &mut [u8])
-    requires len { length field.old ≡ 32 }
+pub fn write_numbers(list: &[u32], field: &mut [u8], version: u32)
+    requires len { length field.old ≡ MAX_NUMBERS * number_width version }
     requires few { length list.now ≤ MAX_NUMBERS }
-    ensures { field.new ≡ numbers list.now }
+    ensures { field.new ≡ numbers (number_width version) list.now }
 {
-    let (start, padding) = field.split_at_mut(2 * list.len());
-    write_shorts(list, start);
+    let (start, padding) = field.split_at_mut(number_width(version) * list.len());
+    write_wide(list, start, version);
     write_zeros(padding);
 }

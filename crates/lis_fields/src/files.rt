@@ -5,44 +5,33 @@ ghost use Rattle.std.specs.List.{list_any};
 ghost use Rattle.std.specs.Ordering.{nat_cmp};
 ghost use Rattle.lis_graph.specs.Graph.{is_rising};
 ghost use Rattle.lis_words.specs.Words.{is_file_name};
-ghost use Rattle.lis_model.specs.State.{file_limit};
 ghost use Rattle.lis_fields.specs.Records.{FileRecord};
-ghost use Rattle.lis_fields.specs.Layouts.{file_start, numbers, record_bytes, file_bytes, are_tags, slot_blocks, are_blocks, is_record, is_file};
+ghost use Rattle.lis_fields.specs.Layouts.{file_start, number_width, numbers, record_bytes, file_bytes, are_tags, slot_blocks, are_blocks, is_record, is_file};
 ghost use Rattle.lis_fields.specs.declared.slots.FileSlot.{FileSlot};
 ghost use Rattle.lis_model.specs.Sets.{are_distinct};
 
 use crate::fields::{
-    NUMBERS_FIELD, TEXT_FIELD, are_zeros, read_number, read_numbers, read_text, write_number,
+    TEXT_FIELD, are_zeros, numbers_field, read_number, read_numbers, read_text, write_number,
     write_numbers, write_text, write_zeros,
 };
 use crate::slots::{FileRec, FileSlot};
 use arrayvec::ArrayVec;
-use lis_limits::{BLOCK_LEN, FILE_LEN, MAX_FILE, MAX_LARGE_FILE, SLOT_BLOCKS};
+use lis_limits::{BLOCK_LEN, FILE_LEN, MAX_ASSIGNED, NUMBERS_PER_INDEX, SLOT_BLOCKS};
+use lis_model::limits::{Limits, file_limit};
 use lis_words::{Name, read_name};
 
 /// How many bytes are before the size.
 const START_LEN: usize = 64;
 
-/// How many bytes a file of the version may have.
-fn file_limit(version: u32) -> u32
-    ensures { result ≡ file_limit version }
-{
-    if version == 2 {
-        MAX_LARGE_FILE
-    } else {
-        MAX_FILE
-    }
-}
-
-/// How many block numbers the slot of a file has.
+/// How many block numbers the slot of a file has: those of its content, or of the blocks that number these.
 fn slot_blocks(version: u32, size: u32) -> u32
     ensures { result ≡ slot_blocks version size }
 {
     let needed = size.div_ceil(BLOCK_LEN as u32);
-    if version == 2 && needed > SLOT_BLOCKS {
-        return 1;
+    if version == 1 || needed <= SLOT_BLOCKS {
+        return needed;
     }
-    needed
+    needed.div_ceil(NUMBERS_PER_INDEX)
 }
 
 fn rise(numbers: &[u32]) -> bool
@@ -97,29 +86,30 @@ fn read_start(bytes: &[u8]) -> Option<(Name, u8)>
 }
 
 /// The slot numbers of the assigned words.
-fn read_tags(field: &[u8], count: usize) -> Option<ArrayVec<u32, 16>>
-    requires { length field.now ≡ 32 }
+fn read_tags(field: &[u8], count: usize, version: u32) -> Option<ArrayVec<u32, 16>>
+    requires { length field.now ≡ MAX_ASSIGNED * number_width version }
     ensures spelled { IfSome result (λ found.
-        (length found.items ≡ count) × IsTrue (are_tags found.items) × (field.now ≡ numbers found.items)) }
-    ensures same { (tags : List ℕ) → length tags ≡ count → IsTrue (are_tags tags) → field.now ≡ numbers tags
+        (length found.items ≡ count) × IsTrue (are_tags version found.items) × (field.now ≡ numbers (number_width version) found.items)) }
+    ensures same { (tags : List ℕ) → length tags ≡ count → IsTrue (are_tags version tags) → field.now ≡ numbers (number_width version) tags
         → IsSomeAnd result (λ found. found.items ≡ tags) }
 {
-    let tags = read_numbers(field, count)?;
+    let tags = read_numbers(field, count, version)?;
     if !rise(tags.as_slice()) {
         return None;
     }
     Some(tags)
 }
 
-/// The block numbers of a file of that version and size.
-fn read_blocks(field: &[u8], version: u32, size: u32) -> Option<ArrayVec<u32, 16>>
-    requires len { length field.now ≡ 32 }
-    requires short { size ≤ file_limit version }
-    ensures spelled { IfSome result (λ found. IsTrue (are_blocks version size found.items) × (field.now ≡ numbers found.items)) }
-    ensures same { (blocks : List ℕ) → IsTrue (are_blocks version size blocks) → field.now ≡ numbers blocks
+/// The block numbers of a file of that size.
+fn read_blocks(field: &[u8], size: u32, version: u32) -> Option<ArrayVec<u32, 16>>
+    requires len { length field.now ≡ MAX_ASSIGNED * number_width version }
+    requires few { slot_blocks version size ≤ MAX_ASSIGNED }
+    ensures spelled { IfSome result (λ found.
+        IsTrue (are_blocks version size found.items) × (field.now ≡ numbers (number_width version) found.items)) }
+    ensures same { (blocks : List ℕ) → IsTrue (are_blocks version size blocks) → field.now ≡ numbers (number_width version) blocks
         → IsSomeAnd result (λ found. found.items ≡ blocks) }
 {
-    let blocks = read_numbers(field, slot_blocks(version, size) as usize)?;
+    let blocks = read_numbers(field, slot_blocks(version, size) as usize, version)?;
     if !are_distinct(blocks.as_slice()) {
         return None;
     }
@@ -136,20 +126,21 @@ struct FileFields<'a> {
     end: &'a [u8],
 }
 
-fn cut(bytes: &[u8]) -> FileFields<'_>
+fn cut(bytes: &[u8], version: u32) -> FileFields<'_>
     requires { length bytes.now ≡ FILE_LEN }
     ensures whole { bytes.now
         ≡ result.start.now ++ (result.size.now ++ (result.tags.now ++ (result.block_numbers.now ++ result.end.now))) }
     ensures start_len { length result.start.now ≡ START_LEN }
     ensures size_len { length result.size.now ≡ 4 }
-    ensures tags_len { length result.tags.now ≡ 32 }
-    ensures blocks_len { length result.block_numbers.now ≡ 32 }
-    ensures end_len { length result.end.now ≡ FILE_LEN - (START_LEN + 4 + 2 * 32) }
+    ensures tags_len { length result.tags.now ≡ MAX_ASSIGNED * number_width version }
+    ensures blocks_len { length result.block_numbers.now ≡ MAX_ASSIGNED * number_width version }
+    ensures end_len { length result.end.now ≡ FILE_LEN - (START_LEN + 4 + 2 * (MAX_ASSIGNED * number_width version)) }
 {
+    let width = numbers_field(version);
     let (start, rest) = bytes.split_at(START_LEN);
     let (size, rest) = rest.split_at(4);
-    let (tags, rest) = rest.split_at(NUMBERS_FIELD);
-    let (block_numbers, end) = rest.split_at(NUMBERS_FIELD);
+    let (tags, rest) = rest.split_at(width);
+    let (block_numbers, end) = rest.split_at(width);
     FileFields {
         start,
         size,
@@ -159,23 +150,23 @@ fn cut(bytes: &[u8]) -> FileFields<'_>
     }
 }
 
-fn read_record(bytes: &[u8], version: u32) -> Option<FileRec>
+fn read_record(bytes: &[u8], limits: &Limits) -> Option<FileRec>
     requires { length bytes.now ≡ FILE_LEN }
-    ensures spelled { IfSome result (λ rec. IsTrue (is_record version rec) × (bytes.now ≡ record_bytes rec)) }
-    ensures same { (rec : FileRecord) → IsTrue (is_record version rec) → bytes.now ≡ record_bytes rec → result ≡ Some rec }
+    ensures spelled { IfSome result (λ rec. IsTrue (is_record limits.now rec) × (bytes.now ≡ record_bytes limits.now.version rec)) }
+    ensures same { (rec : FileRecord) → IsTrue (is_record limits.now rec) → bytes.now ≡ record_bytes limits.now.version rec → result ≡ Some rec }
 {
-    let fields = cut(bytes);
+    let fields = cut(bytes, limits.version);
     if !are_zeros(fields.end) {
         return None;
     }
     let size = read_number(fields.size);
-    let most = file_limit(version);
-    if size > most {
+    let most = file_limit(limits);
+    if u64::from(size) > most {
         return None;
     }
     let (name, count) = read_start(fields.start)?;
-    let tags = read_tags(fields.tags, usize::from(count))?;
-    let numbers = read_blocks(fields.block_numbers, version, size)?;
+    let tags = read_tags(fields.tags, usize::from(count), limits.version)?;
+    let numbers = read_blocks(fields.block_numbers, size, limits.version)?;
     Some(FileRec {
         name,
         size,
@@ -184,11 +175,11 @@ fn read_record(bytes: &[u8], version: u32) -> Option<FileRec>
     })
 }
 
-/// Reads a file slot of an image of that version. None exactly if the bytes are no spelling of one.
+/// Reads a file slot of an image of these limits. None exactly if the bytes are no spelling of one.
 #[tactic(auto, unfolding(crate::specs::Layouts::file_bytes))]
-pub fn read_file(bytes: &[u8], version: u32) -> Option<FileSlot>
-    ensures spelled { IfSome result (λ slot. IsTrue (is_file version slot) × (bytes.now ≡ file_bytes slot)) }
-    ensures same { (slot : FileSlot) → IsTrue (is_file version slot) → bytes.now ≡ file_bytes slot → result ≡ Some slot }
+pub fn read_file(bytes: &[u8], limits: &Limits) -> Option<FileSlot>
+    ensures spelled { IfSome result (λ slot. IsTrue (is_file limits.now slot) × (bytes.now ≡ file_bytes limits.now.version slot)) }
+    ensures same { (slot : FileSlot) → IsTrue (is_file limits.now slot) → bytes.now ≡ file_bytes limits.now.version slot → result ≡ Some slot }
 {
     if bytes.len() != FILE_LEN {
         return None;
@@ -196,7 +187,7 @@ pub fn read_file(bytes: &[u8], version: u32) -> Option<FileSlot>
     if are_zeros(bytes) {
         return Some(FileSlot::Free);
     }
-    let rec = read_record(bytes, version)?;
+    let rec = read_record(bytes, limits)?;
     Some(FileSlot::Used(rec))
 }
 
@@ -211,30 +202,31 @@ fn write_start(name: &Name, count: u8, bytes: &mut [u8])
     end.copy_from_slice(&[count, 0]);
 }
 
-fn write_record(rec: &FileRec, bytes: &mut [u8])
+fn write_record(rec: &FileRec, bytes: &mut [u8], version: u32)
     requires { length bytes.old ≡ FILE_LEN }
-    ensures { bytes.new ≡ record_bytes rec.now }
+    ensures { bytes.new ≡ record_bytes version rec.now }
 {
+    let width = numbers_field(version);
     let (start, rest) = bytes.split_at_mut(START_LEN);
     let (size, rest) = rest.split_at_mut(4);
-    let (tags, rest) = rest.split_at_mut(NUMBERS_FIELD);
-    let (blocks, end) = rest.split_at_mut(NUMBERS_FIELD);
+    let (tags, rest) = rest.split_at_mut(width);
+    let (blocks, end) = rest.split_at_mut(width);
     write_start(&rec.name, rec.tags.len() as u8, start);
     write_number(rec.size, size);
-    write_numbers(rec.tags.as_slice(), tags);
-    write_numbers(rec.blocks.as_slice(), blocks);
+    write_numbers(rec.tags.as_slice(), tags, version);
+    write_numbers(rec.blocks.as_slice(), blocks, version);
     write_zeros(end);
 }
 
-/// Writes a file slot of an image of that version.
+/// Writes a file slot of an image of these limits.
 #[tactic(auto, unfolding(crate::specs::Layouts::file_bytes))]
-pub fn write_file(slot: &FileSlot, bytes: &mut [u8], version: u32)
+pub fn write_file(slot: &FileSlot, bytes: &mut [u8], limits: &Limits)
     requires len { length bytes.old ≡ FILE_LEN }
-    requires range { IsTrue (is_file version slot.now) }
-    ensures { bytes.new ≡ file_bytes slot.now }
+    requires range { IsTrue (is_file limits.now slot.now) }
+    ensures { bytes.new ≡ file_bytes limits.now.version slot.now }
 {
     match slot {
         FileSlot::Free => write_zeros(bytes),
-        FileSlot::Used(rec) => write_record(rec, bytes),
+        FileSlot::Used(rec) => write_record(rec, bytes, limits.version),
     }
 }

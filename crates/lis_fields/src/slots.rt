@@ -41,8 +41,8 @@ pub struct FileRec {
     pub size: u32,
     /// The slot numbers of the words that the file was assigned.
     pub tags: ArrayVec<u32, 16>,
-    /// The numbers of the data blocks of its bytes, in order. If they are more than 16, which only version 2 has, this is the number of the
-    /// index block alone, which has theirs.
+    /// The numbers of the data blocks of its bytes, in order. If these are more than 16, as in versions 2 and 3, those of its index blocks,
+    /// which have theirs.
     pub blocks: ArrayVec<u32, 16>,
 }
 
