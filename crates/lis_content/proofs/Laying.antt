@@ -28,7 +28,7 @@ use Rattle.lis_content.specs.Large.{is_large, index_bytes, numbers_in}
 use Rattle.lis_content.specs.Placing.{AreUnstaged, homes_of, Places, Lays, IsLaid, HasFile, IsPlaced, IsTornOff, WritesRow, RowPlaced, RowOf, RowTorn, OnePlaced}
 use Rattle.lis_content.proofs.Numbers.{are_below, below_from_free, free_after, length-marked, number_past, row_new}
 use Rattle.lis_content.proofs.Taking.{part_more, same_others}
-use Rattle.lis_content.proofs.Indexes.{index_reads_back, large_numbers, large_blocks, small_numbers, small_blocks}
+use Rattle.lis_content.proofs.Indexes.{index_reads_back, large_numbers, large_blocks, small_numbers, small_blocks, taken_with_index}
 use Rattle.lis_model.specs.Sets.{has_number}
 
 -- ---- homes of blocks

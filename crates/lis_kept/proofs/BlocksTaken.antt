@@ -1,7 +1,7 @@
 -- Blocks that are taken for a content, or freed.
-use Rattle.std.proofs.Common.{MatchResult, arith}
-use Rattle.lis_kept.proofs.Common.{rules, ◌≡◌, refl, sym, ap, ◌∙◌, subst, ℕ, zero, suc, ◌<◌, ◌≤◌, nat_lt, not, Bool, true, false, List, [], ◌∷◌, length, drop, set, Result, Ok, Err, length-set, list_all, and_parts, ltb-true, lt-ltb, Held, are_distinct, slot_count, FileRecord, Taxonomy, bitmap_start, data_start, all_among, and_from, all_from}
-use Rattle.std.proofs.lemmas.Bool.{cond-true, cond-false, eq-eqb, ltb-false}
+use Rattle.std.proofs.Common.{MatchResult, arith, nat_le, min}
+use Rattle.lis_kept.proofs.Common.{rules, ◌≡◌, refl, sym, ap, ◌∙◌, subst, ℕ, zero, suc, ◌<◌, ◌≤◌, nat_lt, not, Bool, true, false, List, [], ◌∷◌, length, drop, set, Result, Ok, Err, length-set, list_all, and_parts, ltb-true, lt-ltb, Held, are_distinct, slot_count, FileRecord, Taxonomy, bitmap_start, data_start, all_among, and_from, all_from, ◌==◌, ◌&&◌, ◌||◌, ◌/◌, ◌*◌, Limits, cond}
+use Rattle.std.proofs.lemmas.Bool.{cond-true, cond-false, eq-eqb, ltb-false, leb-false, and_from}
 use Rattle.lis_ports.specs.Meaning.{Meaning}
 use Rattle.lis_ports.specs.Runs.{Leaves}
 use Rattle.lis_ports.proofs.Moments.{leaves_none}
@@ -19,7 +19,7 @@ use Rattle.lis_content.proofs.Numbers.{are_below, below_from_free, within_if_bel
 use Rattle.lis_content.proofs.Indexes.{small_blocks, small_content, small_size}
 use Rattle.lis_content.proofs.Files.{slot_were_free}
 use Rattle.lis_content.proofs.Laying.{among_homes}
-use Rattle.lis_fields.specs.Layouts.{are_blocks}
+use Rattle.lis_fields.specs.Layouts.{are_blocks, number_width}
 use Rattle.lis_model.specs.Image.{image_blocks}
 use Rattle.lis_model.specs.State.{file_limit, blocks_needed, blocks_taken}
 use Rattle.lis_kept.specs.Metadata.{Metadata}
@@ -27,7 +27,7 @@ use Rattle.lis_kept.specs.Areas.{Area, slots_of, block_of, spelled}
 use Rattle.lis_kept.specs.Sound.{is_sound_record}
 use Rattle.lis_kept.specs.Links.{AreHeld}
 use Rattle.lis_kept.specs.Changes.{Takes, GivesBack, Fills, Lands, Puts, PutTorn}
-use Rattle.lis_kept.proofs.InArea.{few_blocks}
+use Rattle.lis_kept.proofs.InArea.{few_blocks, two_bytes}
 use Rattle.lis_kept.proofs.Formed.{held_files, record_parts}
 use Rattle.lis_kept.proofs.Marking.{block_marked}
 use Rattle.lis_kept.proofs.Contents.{slot_blocks_counted}

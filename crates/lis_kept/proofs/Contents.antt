@@ -1,14 +1,16 @@
 -- The bytes and the blocks of a file, and what stays when other blocks change.
-use Rattle.lis_kept.proofs.Common.{rules, ◌≡◌, ℕ, ◌+◌, ◌≤◌, true, List, length, eqb-true, Among, among_from_any, among_right, slot_count, Dict, FileRecord, slot_blocks, Limits, data_start}
-use Rattle.std.proofs.lemmas.Bool.{cond-false}
+use Rattle.lis_kept.proofs.Common.{rules, ◌≡◌, ℕ, ◌+◌, ◌≤◌, true, List, length, eqb-true, Among, among_from_any, among_right, slot_count, Dict, FileRecord, slot_blocks, Limits, data_start, IsTrue, ◌⊎◌, ◌<◌, ◌*◌, ◌/◌, ◌==◌, Bool, false, cond, refl, sym, subst, ◌∙◌, inl, inr, are_stored}
+use Rattle.std.proofs.lemmas.Bool.{cond-false, leb-true, leb-false, ltb-true, ltb-false}
 use Rattle.lis_content.proofs.Indexes.{large_blocks, small_blocks, small_size}
 use Rattle.lis_content.proofs.Files.{AreSame, same_file as same_in_content}
 use Rattle.lis_fields.proofs.Parts.{few_blocks}
-use Rattle.lis_model.specs.State.{file_limit}
+use Rattle.lis_model.specs.State.{file_limit, blocks_needed}
 use Rattle.lis_kept.specs.Sound.{is_sound_record}
 use Rattle.lis_kept.specs.Telling.{bytes_told, blocks_told, HasIndex}
 use Rattle.lis_kept.proofs.Dropped.{record_in_form}
 use Rattle.lis_model.proofs.Stored.{stored_parts}
+use Rattle.std.proofs.Common.{arith, nat_le, nat_lt, min}
+use Rattle.lis_content.specs.Large.{is_large}
 
 -- ---- how many numbers a slot has
 -- as many as the size requires

@@ -1,6 +1,6 @@
 -- A file that is removed.
 use Rattle.std.proofs.Common.{arith}
-use Rattle.lis_kept.proofs.Common.{rules, ◌≡◌, ◌⊎◌, inl, inr, Option, refl, sym, ap, ◌∙◌, subst, ℕ, ◌<◌, ◌==◌, if◌then◌else◌, ◌&&◌, not, Bool, true, List, length, set, Some, None, is_some, IsSome, length-set, cases_eq, eqb-true, ne_eqb, and_parts, same_Some, Among, are_distinct, Catalog, Filed, IsCatalog, rec_at, slot_of, without_slot, FileRecord, slot_blocks, Dict, word_of, Taxonomy, same_word, same_word_decides, has, both_ways, same_tests}
+use Rattle.lis_kept.proofs.Common.{rules, ◌≡◌, ◌⊎◌, inl, inr, Option, refl, sym, ap, ◌∙◌, subst, ℕ, ◌<◌, ◌==◌, if◌then◌else◌, ◌&&◌, not, Bool, true, List, length, set, Some, None, is_some, IsSome, length-set, cases_eq, eqb-true, ne_eqb, and_parts, same_Some, Among, are_distinct, Catalog, Filed, IsCatalog, rec_at, slot_of, without_slot, FileRecord, slot_blocks, Dict, word_of, Taxonomy, same_word, same_word_decides, has, both_ways, same_tests, Limits}
 use Rattle.std.proofs.lemmas.Bool.{eq-eqb}
 use Rattle.lis_catalog.proofs.Laws.{rec_at-without_slot, slot_is_below, slot_of-rec_at}
 use Rattle.lis_model.specs.Sets.{fit}
@@ -18,6 +18,7 @@ use Rattle.lis_kept.proofs.InArea.{among_slots}
 use Rattle.lis_kept.proofs.Formed.{held_files, record_parts}
 use Rattle.lis_kept.proofs.Marking.{block_marked}
 use Rattle.lis_kept.proofs.Filing.{filter-map, catalog_without, filed_rec, filed_slot}
+use Rattle.lis_fields.specs.Layouts.{number_width}
 
 -- a sound record is in the ranges of its layout
 pub record_in_form : (limits : Limits) (dict : Dict) (blocks : ℕ) (rec : FileRecord) → is_sound_record limits dict blocks rec ≡ true → IsFileRecord limits rec

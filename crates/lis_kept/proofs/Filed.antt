@@ -1,6 +1,6 @@
 -- A record that is put into a free slot.
 use Rattle.std.proofs.Common.{eqb, arith}
-use Rattle.lis_kept.proofs.Common.{rules, ◌≡◌, refl, sym, ap, ◌∙◌, subst, inl, ℕ, ◌<◌, ◌==◌, if◌then◌else◌, not, Bool, true, false, List, [], ◌∷◌, length, set, Some, None, IsSome, and_parts, ne_eqb, eqb-true, ltb-true, length-map, same_Some, Among, among_from_any, are_distinct, Catalog, Filed, IsCatalog, rec_at, slot_of, Dict, word_of, has, FileRecord, Taxonomy, File, all_among, and_from, both_ways}
+use Rattle.lis_kept.proofs.Common.{rules, ◌≡◌, refl, sym, ap, ◌∙◌, subst, inl, ℕ, ◌<◌, ◌==◌, if◌then◌else◌, not, Bool, true, false, List, [], ◌∷◌, length, set, Some, None, IsSome, and_parts, ne_eqb, eqb-true, ltb-true, length-map, same_Some, Among, among_from_any, are_distinct, Catalog, Filed, IsCatalog, rec_at, slot_of, Dict, word_of, has, FileRecord, Taxonomy, File, all_among, and_from, both_ways, Limits}
 use Rattle.std.specs.List.{AllByRecursion, IsDistinct}
 use Rattle.std.proofs.lemmas.Bool.{or_parts, eq-eqb}
 use Rattle.std.proofs.lemmas.Map.Steps.{length-le_from_distinct_below}

@@ -1,6 +1,6 @@
 -- In which blocks an area is, and its slots in a block.
-use Rattle.std.proofs.Common.{arith}
-use Rattle.lis_kept.proofs.Common.{rules, ◌≡◌, ℕ, ◌+◌, ◌*◌, ◌-◌, ◌/◌, ◌%◌, ◌<◌, ◌≤◌, ◌==◌, ◌||◌, Bool, true, List, IsTrue, sym, subst, inl, inr, and_parts, or_cases, eqb-true, Limits, are_stored, bitmap_start, data_start}
+use Rattle.std.proofs.Common.{arith, ap, cond, min}
+use Rattle.lis_kept.proofs.Common.{rules, ◌≡◌, ℕ, ◌+◌, ◌*◌, ◌-◌, ◌/◌, ◌%◌, ◌<◌, ◌≤◌, ◌==◌, ◌||◌, Bool, true, List, IsTrue, sym, subst, inl, inr, and_parts, or_cases, eqb-true, Limits, are_stored, bitmap_start, data_start, ◌⊎◌}
 use Rattle.std.proofs.Math.Nat.{div-lt_iff_lt-mul, div-add-mod}
 use Rattle.std.proofs.lemmas.Bool.Decides.{nat_tests}
 use Rattle.lis_model.specs.Ranges.{is_files_limit, is_props_limit}
@@ -11,6 +11,7 @@ use Rattle.lis_kept.specs.Metadata.{Metadata}
 use Rattle.lis_kept.specs.Areas.{Area, slots_of, block_of, spelled, held_in, row_slots}
 use Rattle.lis_kept.specs.Areas.Area.{Properties, Axioms, Files, Rows, Bitmap}
 use Rattle.lis_kept.specs.Inside.{bytes_in, IsBlock}
+use Rattle.lis_model.specs.State.{file_limit}
 
 -- ---- limits in range
 pub files_range : (limits : Limits) → IsTrue (are_stored limits) → is_files_limit 2 limits.files ≡ true
