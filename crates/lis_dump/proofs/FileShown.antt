@@ -7,9 +7,8 @@ use Rattle.lis_replay.specs.Dump.{words_line, mv_lines, file_lines}
 use Rattle.lis_store.specs.Stored.{Stored, StoreFits}
 use Rattle.lis_session.specs.declared.end.End.{End}
 use Rattle.lis_session.specs.Item.{FitsAt}
-use Rattle.lis_session.specs.Parts.{Answers}
-use Rattle.lis_session.specs.Showing.{Shows}
-use Rattle.lis_session.proofs.Shown.{as_shown, shown_same, shown_then, shown_front}
+use Rattle.lis_dump.specs.Showing.{Pages}
+use Rattle.lis_dump.proofs.Paging.{paged_same, paged_then, paged_front}
 
 module _ (name : List ℕ) where
   abbrev pub added : ℕ → List (List ℕ) → List ℕ
@@ -24,18 +23,19 @@ module _ (name : List ℕ) where
   abbrev lines_of : State → List ℕ
   lines_of state = file_lines (file_of state.files name)
 
-module _ {k : Stored} {a b : Meaning} (name : List ℕ) (size : ℕ) (first others : List (List ℕ))
+module _ {k : Stored} {a b : Meaning} {before page : List ℕ} (name : List ℕ) (size : ℕ) (first others : List (List ℕ))
     (lines : (state : State) → FitsAt (StoreFits k a) a state → added name size first ++ behind_line name others state ≡ lines_of name state) where
-  pub add_broke : (end : End) → Answers a b (added name size first) (Err end) → Shows k (lines_of name) a b (Err end)
-  add_broke end add = shown_same (lines_of name) lines (shown_front (λ state. added name size first) (behind_line name others) end (as_shown add))
+  pub add_broke : {after : List ℕ} (end : End) → Pages k (λ state. added name size first) before page a b (Err end) → Pages k (lines_of name) before after a b (Err end)
+  add_broke end add = paged_same (lines_of name) lines (paged_front (λ state. added name size first) (behind_line name others) end add)
 
-  module _ {c : Meaning} (u : Unit {0}) (add : Answers a b (added name size first) (Ok u)) where
-    pub bytes_broke : (end : End) → Shows k (bytes_of name) b c (Err end) → Shows k (lines_of name) a c (Err end)
+  module _ {c : Meaning} {next after : List ℕ} (u : Unit {0}) (add : Pages k (λ state. added name size first) before page a b (Ok u)) where
+    pub bytes_broke : (end : End) → Pages k (bytes_of name) page next b c (Err end) → Pages k (lines_of name) before after a c (Err end)
     bytes_broke end bytes =
-        shown_same (lines_of name) lines
-        (shown_then (λ state. added name size first) (behind_line name others) u (Err end) (as_shown add) (shown_front (bytes_of name) (λ state. 10 ∷ mv_lines name others) end bytes))
+        paged_same (lines_of name) lines
+        (paged_then (λ state. added name size first) (behind_line name others) u add (paged_front (bytes_of name) (λ state. 10 ∷ mv_lines name others) end bytes))
 
-    pub file_shown : {d : Meaning} (v : Unit {0}) (result : Result (Unit {0}) End) → Shows k (bytes_of name) b c (Ok v) → Answers c d (10 ∷ mv_lines name others) result → Shows k (lines_of name) a d result
-    file_shown v result bytes last =
-        shown_same (lines_of name) lines
-        (shown_then (λ state. added name size first) (behind_line name others) u result (as_shown add) (shown_then (bytes_of name) (λ state. 10 ∷ mv_lines name others) v result bytes (as_shown last)))
+    pub file_shown : {d : Meaning} {result : Result (Unit {0}) End} (v : Unit {0}) → Pages k (bytes_of name) page next b c (Ok v) → Pages k (λ state. 10 ∷ mv_lines name others) next after c d result
+        → Pages k (lines_of name) before after a d result
+    file_shown v bytes last =
+        paged_same (lines_of name) lines
+        (paged_then (λ state. added name size first) (behind_line name others) u add (paged_then (bytes_of name) (λ state. 10 ∷ mv_lines name others) v bytes last))

@@ -1,3 +1,4 @@
+pub mod Paging
 pub mod LineBytes
 pub mod WordsTold
 pub mod FilesTold

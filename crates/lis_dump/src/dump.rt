@@ -10,13 +10,15 @@ ghost use Rattle.lis_session.specs.Showing.{DiskStays};
 
 use crate::axioms::show_axioms;
 use crate::files::show_files;
+use crate::page::show_page;
 use crate::words::show_words;
+use arrayvec::ArrayVec;
 use lis_ports::Station;
 use lis_session::end::End;
 use lis_store::Store;
 
-/// Shows the dump of the state that the image represents: each line by one call, and the bytes of each file block by block. It allocates no
-/// memory.
+/// Shows the dump of the state that the image represents: lines by pages of at most 4,096 bytes, and the bytes of each file block by block. It
+/// allocates no memory.
 pub fn dump_state<T: Station>(store: &Store, station: &mut T) -> Result<(), End>
     requires sound { IsSound store.now }
     requires usable { IsUsable store.now (T.meaning station.old) }
@@ -25,7 +27,9 @@ pub fn dump_state<T: Station>(store: &Store, station: &mut T) -> Result<(), End>
     ensures ends { Ends (T.meaning station.old) (T.meaning station.new) result }
     ensures disk { IsTrue (T.meaning station.old).is_honest → DiskStays (T.meaning station.old) (T.meaning station.new) }
 {
-    show_words(store, station)?;
-    show_files(store, station)?;
-    show_axioms(store, station)
+    let mut page = ArrayVec::new();
+    show_words(store, &mut page, station)?;
+    show_files(store, &mut page, station)?;
+    show_axioms(store, &mut page, station)?;
+    show_page(&mut page, station)
 }

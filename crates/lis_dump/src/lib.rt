@@ -5,7 +5,7 @@ mod axioms;
 mod dump;
 mod files;
 mod lines;
-mod showing;
+mod page;
 mod words;
 
 pub use dump::dump_state;

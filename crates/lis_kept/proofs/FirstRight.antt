@@ -1,26 +1,27 @@
 -- Of the right words of axioms whose left word has a number, the first after another word.
-use Rattle.std.proofs.Common.{option_to_list, filter}
-use Rattle.lis_kept.proofs.Common.{common_steps, rules, ◌≡◌, ℕ, ◌+◌, ◌<◌, ◌==◌, ◌&&◌, Bool, true, false, cond, if◌then◌else◌, Option, ◌⊎◌, subst, Some, None, List, [], ◌∷◌, ◌++◌, length, get_or, map, take, refl, sym, ap, ap₂, ◌∙◌, inl, inr, insert_key, find, flat_map, fold, IsStrictlySortedBy, match_ordering, Ordering, Less, Equal, Greater, eqb-true, take_more, same_Some, Among, among_filter, among_map, among_flat_map, flat_map_among, sorted_insert_key, Dict, IsDict, number_of, word_of, number_from_word, AxiomSlot, FreeAxiom, Pair, word_cmp, same_word, pair_exact, word_order, same_word_decides, false_from_ne_true, filter_among, map_among, pair_order, same_words}
+use Rattle.std.proofs.Common.{option_to_list, filter, nat_eq, eq-eqb}
+use Rattle.lis_kept.proofs.Common.{common_steps, rules, ◌≡◌, ℕ, ◌+◌, ◌<◌, ◌==◌, ◌&&◌, Bool, true, false, cond, if◌then◌else◌, Option, ◌⊎◌, subst, Some, None, List, [], ◌∷◌, ◌++◌, length, get_or, map, take, refl, sym, ap, ap₂, ◌∙◌, inl, inr, insert_key, find, flat_map, fold, IsStrictlySortedBy, match_ordering, Ordering, Less, Equal, Greater, eqb-true, take_more, same_Some, Among, among_filter, among_map, among_flat_map, flat_map_among, sorted_insert_key, Dict, number_of, word_of, number_from_word, Pair, word_cmp, same_word, word_order, same_word_decides, false_from_ne_true, filter_among, map_among, pair_order, same_words, Taxonomy, has_edge, is_plain_word, or_cases, and_from, both_ways, among_from_any, any_from_among, slice_get}
 use native.Mathlib.Omega.{arith}
 use Rattle.std.specs.List.{AllByRecursion}
 use Rattle.std.proofs.Math.Bool.{and-true}
 use Rattle.std.specs.Cmp.{IsTotalOrder}
 use Rattle.std.specs.Ordering.{is_lt}
-use Rattle.std.proofs.lemmas.Bool.{eq-eqb}
 use Rattle.std.proofs.lemmas.Grind.{flat_map-append}
 use Rattle.std.proofs.lemmas.List.{append-nil}
 use Rattle.std.proofs.lemmas.List.Sums.{fold-append}
 use Rattle.std.proofs.lemmas.Map.Lookups.{CmpEqualImpliesEq}
-use Rattle.lis_graph.proofs.Members.{among_with_more, with_more_new}
 use Rattle.lis_graph.proofs.Sets.{below_tail, sorted_tail, sorted_nil, sorted_cons, sorted_with_more}
 use Rattle.lis_model.specs.Sets.{set_of}
 use Rattle.lis_model.specs.State.{pair_cmp}
 use Rattle.lis_laws.proofs.Members.{word_exact, among_set_of, set_of_among, sorted_set_of}
-use Rattle.lis_kept.specs.Behind.{rights_of, is_behind, is_before, right_by}
+use Rattle.lis_taxonomy.specs.Taxonomy.{leads_to}
+use Rattle.lis_kept.specs.Behind.{rights_of, is_behind, is_before, plain_by, plain_right}
+use Rattle.lis_kept.specs.Links.{is_pair, has_pair, is_own_link, TellsLinks}
 use Rattle.lis_kept.specs.Metadata.{Metadata}
 use Rattle.lis_kept.specs.Sound.{AreSound}
-use Rattle.lis_kept.specs.Telling.{pair_by, pair_told, pairs_told, axioms_of}
-use Rattle.lis_kept.proofs.Known.{only_word, only_pair, among_axiom}
+use Rattle.lis_kept.specs.Telling.{declared_of, pairs_told, axioms_of}
+use Rattle.lis_kept.proofs.Known.{only_word, one_number, axiom_among, among_axiom}
+use Rattle.lis_kept.proofs.OwnLinks.{among_slot, own_to_plain, pair_slot}
 
 -- ---- the first of a sorted set that passes a test, when a key is inserted
 module _ {K : Type 0} (cmp : K → K → Ordering) (order : IsTotalOrder cmp) (exact : CmpEqualImpliesEq cmp) (test : K → Bool) where
@@ -86,82 +87,93 @@ module _ (left : List ℕ) where
           sorted_cons word_cmp word_order pair.1 (rights_of axioms left) (below_rights pair.1 axioms below) rest
       by false e rest = rest
 
--- ---- slots
-module _ (d : Dict) (kept : IsDict d) (number : ℕ) (left : List ℕ) (named : word_of d number ≡ Some left) where
-  abbrev axioms_in : List AxiomSlot → List (List ℕ × List ℕ)
-  axioms_in slots = fold (insert_key pair_cmp) [] (pairs_told d slots)
+-- ---- edges
+-- the words that an edge or several lead to, a set
+abbrev rights_in : Dict → List (ℕ × ℕ) → List (List ℕ)
+rights_in d edges = set_of (flat_map (plain_right d) edges)
 
-  abbrev right_in : AxiomSlot → List (List ℕ)
-  right_in slot = option_to_list (right_by d number slot)
-
-  -- the right words of axioms whose left word has the number
-  rights_told : (slots : List AxiomSlot) → rights_of (axioms_in slots) left ≡ set_of (flat_map right_in slots)
-  rights_told slots =
-      same_words (rights_of (axioms_in slots) left) (set_of (flat_map right_in slots))
-      (rights_sorted left (axioms_in slots) (sorted_with_more pair_cmp pair_order [] (pairs_told d slots) (sorted_nil pair_cmp pair_order))) (sorted_set_of (flat_map right_in slots)) to from
-    where
-      to : (w : List ℕ) → Among (rights_of (axioms_in slots) left) w → Among (set_of (flat_map right_in slots)) w
-      to w m =
-          let pair = among_map (λ p. p.1) (filter (λ p. same_word p.0 left) (axioms_in slots)) w m in
-          let kept = among_filter (λ p. same_word p.0 left) (axioms_in slots) pair.0 pair.1 in
-          by pair.0 pair.2 ((same_word_decides (pair.0).0 left).0 kept.1) (among_with_more pair_cmp [] (pairs_told d slots) pair.0 kept.0)
-        where
-          at : (pair : List ℕ × List ℕ) → pair.1 ≡ w → pair.0 ≡ left → (a : AxiomSlot) → Among slots a → Among (pair_told d a) pair → Among (set_of (flat_map right_in slots)) w
-          at pair right lefts FreeAxiom there told = absurd told
-          at pair right lefts (Pair x y) there told =
-              let names = only_pair (word_of d x) (word_of d y) pair told in
-              let same : x ≡ number = same_Some x number (sym (number_from_word d kept left x (names.0 ∙ ap Some lefts)) ∙ number_from_word d kept left number named) in
-              let is : right_by d number (Pair x y) ≡ Some w = ap (λ b. if b then word_of d y else None) (eq-eqb x number same) ∙ (names.1 ∙ ap Some right) in
-              set_of_among (flat_map right_in slots) w (flat_map_among right_in slots (Pair x y) w there (subst (λ o. Among (option_to_list o) w) (sym is) (inl refl)))
-
-          by : (pair : List ℕ × List ℕ) → pair.1 ≡ w → pair.0 ≡ left → Among {K = List ℕ × List ℕ} [] pair ⊎ Among (pairs_told d slots) pair → Among (set_of (flat_map right_in slots)) w
-          by pair right lefts (inl none) = absurd none
-          by pair right lefts (inr some) = let found = among_flat_map (pair_told d) slots pair some in at pair right lefts found.0 found.1 found.2
-
-      from : (w : List ℕ) → Among (set_of (flat_map right_in slots)) w → Among (rights_of (axioms_in slots) left) w
-      from w m =
-          let found = among_flat_map right_in slots w (among_set_of (flat_map right_in slots) w m) in
-          at found.0 found.1 (only_word (right_by d number found.0) w found.2)
-        where
-          at : (a : AxiomSlot) → Among slots a → right_by d number a ≡ Some w → Among (rights_of (axioms_in slots) left) w
-          at FreeAxiom there is = absurd cc
-          at (Pair x y) there is = by (x == number) refl is
-            where
-              by : (b : Bool) → (x == number) ≡ b → (if b then word_of d y else None) ≡ Some w → Among (rights_of (axioms_in slots) left) w
-              by true e right =
-                  let told = subst (λ o. Among (pair_by o (word_of d y)) (left, w)) (sym (ap (word_of d) (eqb-true x number e) ∙ named)) (subst (λ o. Among (pair_by (Some left) o) (left, w)) (sym right) (inl refl)) in
-                  map_among (λ p. p.1) (filter (λ p. same_word p.0 left) (axioms_in slots)) (left, w)
-                  (filter_among (λ p. same_word p.0 left) (axioms_in slots) (left, w)
-                  (with_more_new pair_cmp pair_exact [] (pairs_told d slots) (left, w) (flat_map_among (pair_told d) slots (Pair x y) (left, w) there told)) ((same_word_decides left left).1 refl))
-              by false e none = absurd cc
-
-  -- one more slot
-  slot_taken : (last : Option (List ℕ)) (slots : List AxiomSlot) (slot : AxiomSlot)
-      → find (is_behind last) (rights_of (axioms_in (slots ++ slot ∷ [])) left) ≡ taken last (find (is_behind last) (rights_of (axioms_in slots) left)) (right_by d number slot)
-  slot_taken last slots slot =
-      ap (find (is_behind last)) (rights_told (slots ++ slot ∷ [])
-      ∙ (ap set_of (flat_map-append right_in slots (slot ∷ []) ∙ ap (λ more. flat_map right_in slots ++ more) (append-nil (right_in slot)))
-      ∙ fold-append (insert_key word_cmp) [] (flat_map right_in slots) (right_in slot)))
-      ∙ (by (right_by d number slot) ∙ ap (λ ws. taken last (find (is_behind last) ws) (right_by d number slot)) (sym (rights_told slots)))
-    where
-      by : (o : Option (List ℕ)) → find (is_behind last) (fold (insert_key word_cmp) (set_of (flat_map right_in slots)) (option_to_list o)) ≡ taken last (find (is_behind last) (set_of (flat_map right_in slots))) o
-      by None = refl
-      by (Some word) =
-          find_put word_cmp word_order word_exact (is_behind last) (set_of (flat_map right_in slots)) word (sorted_set_of (flat_map right_in slots))
-          ∙ put_taken last (find (is_behind last) (set_of (flat_map right_in slots))) word
+-- one more edge
+edge_taken : (d : Dict) (last : Option (List ℕ)) (edges : List (ℕ × ℕ)) (edge : ℕ × ℕ)
+    → find (is_behind last) (rights_in d (edges ++ edge ∷ [])) ≡ taken last (find (is_behind last) (rights_in d edges)) (plain_by (word_of d edge.1))
+edge_taken d last edges edge =
+    ap (λ words. find (is_behind last) (set_of words)) (flat_map-append (plain_right d) edges (edge ∷ []) ∙ ap (λ more. flat_map (plain_right d) edges ++ more) (append-nil (plain_right d edge)))
+    ∙ (ap (find (is_behind last)) (fold-append (insert_key word_cmp) [] (flat_map (plain_right d) edges) (plain_right d edge)) ∙ by (plain_by (word_of d edge.1)))
+  where
+    by : (o : Option (List ℕ)) → find (is_behind last) (fold (insert_key word_cmp) (rights_in d edges) (option_to_list o)) ≡ taken last (find (is_behind last) (rights_in d edges)) o
+    by None = refl
+    by (Some word) =
+        find_put word_cmp word_order word_exact (is_behind last) (rights_in d edges) word (sorted_set_of (flat_map (plain_right d) edges))
+        ∙ put_taken last (find (is_behind last) (rights_in d edges)) word
 
 -- ---- the loop
-abbrev pub FirstSoFar : Dict → ℕ → Option (List ℕ) → List AxiomSlot → Option (List ℕ) → Type 0
-FirstSoFar d number last slots first =
-    (left : List ℕ) → word_of d number ≡ Some left → first ≡ find (is_behind last) (rights_of (fold (insert_key pair_cmp) [] (pairs_told d slots)) left)
+abbrev pub FirstSoFar : Dict → Option (List ℕ) → List (ℕ × ℕ) → Option (List ℕ) → Type 0
+FirstSoFar d last edges first = first ≡ find (is_behind last) (rights_in d edges)
 
-pub first_more : (d : Dict) (number : ℕ) (last first right now : Option (List ℕ)) (slots : List AxiomSlot) (n : ℕ) → IsDict d → n < length slots → right ≡ right_by d number (get_or slots n FreeAxiom)
-    → now ≡ taken last first right → FirstSoFar d number last (take n slots) first → FirstSoFar d number last (take (n + 1) slots) now
-first_more d number last first right now slots n kept within is taken_is so_far left named =
+pub first_more : (d : Dict) (last first right now : Option (List ℕ)) (edges : List (ℕ × ℕ)) (n : ℕ) → n < length edges → right ≡ plain_by (word_of d (get_or edges n (0, 0)).1)
+    → now ≡ taken last first right → FirstSoFar d last (take n edges) first → FirstSoFar d last (take (n + 1) edges) now
+first_more d last first right now edges n within is taken_is so_far =
     taken_is
-    ∙ (ap₂ (taken last) (so_far left named) is
-    ∙ (sym (slot_taken d kept number left named last (take n slots) (get_or slots n FreeAxiom))
-    ∙ ap (λ xs. find (is_behind last) (rights_of (fold (insert_key pair_cmp) [] (pairs_told d xs)) left)) (sym (take_more slots n FreeAxiom within))))
+    ∙ (ap₂ (taken last) so_far is
+    ∙ (sym (edge_taken d last (take n edges) (get_or edges n (0, 0)))
+    ∙ ap (λ es. find (is_behind last) (rights_in d es)) (sym (take_more edges n (0, 0) within))))
+
+-- ---- the edges of a word
+only_plain : (o : Option (List ℕ)) (word : List ℕ) → plain_by o ≡ Some word → (o ≡ Some word) × (is_plain_word word ≡ true)
+only_plain None word is = absurd cc
+only_plain (Some w) word is = by (is_plain_word w) refl is
+  where
+    by : (b : Bool) → is_plain_word w ≡ b → (if b then Some w else None) ≡ Some word → (Some w ≡ Some word) × (is_plain_word word ≡ true)
+    by true plain same = (same, ap is_plain_word (sym (same_Some w word same)) ∙ plain)
+    by false plain none = absurd cc
+
+among_plain : (d : Dict) (edge : ℕ × ℕ) (word : List ℕ) → word_of d edge.1 ≡ Some word → is_plain_word word ≡ true → Among (plain_right d edge) word
+among_plain d edge word is plain = subst (λ o. Among (option_to_list o) word) (sym (ap plain_by is ∙ ap (λ b. if b then Some word else None) plain)) (inl refl)
+
+module _ (k : Metadata) (sound : AreSound k) (t : Taxonomy) (tells : TellsLinks k t) where
+  -- an edge to a plain word is that of an axiom
+  edge_pair : (p q : ℕ) (word : List ℕ) → word_of k.dict q ≡ Some word → is_plain_word word ≡ true → has_edge t p q ≡ true → has_pair k.axioms p q ≡ true
+  edge_pair p q word is plain edge = by (or_cases (is_own_link (declared_of k) (word_of k.dict p) (word_of k.dict q)) (has_pair k.axioms p q) (tells.linked p q edge))
+    where
+      is_plain : (v : List ℕ) → word_of k.dict q ≡ Some v → is_plain_word v ≡ true
+      is_plain v is_v = ap is_plain_word (same_Some v word (sym is_v ∙ is)) ∙ plain
+
+      by : (is_own_link (declared_of k) (word_of k.dict p) (word_of k.dict q) ≡ true) ⊎ (has_pair k.axioms p q ≡ true) → has_pair k.axioms p q ≡ true
+      by (inl own) = absurd (both_ways (is_own_link (declared_of k) (word_of k.dict p) (word_of k.dict q)) (own_to_plain (declared_of k) (word_of k.dict p) (word_of k.dict q) is_plain) own)
+      by (inr pair) = pair
+
+  pair_there : (slot p q : ℕ) → slice_get k.axioms slot ≡ Some (Pair p q) → has_pair k.axioms p q ≡ true
+  pair_there slot p q at = any_from_among (is_pair p q) k.axioms (Pair p q) (among_slot k.axioms slot (Pair p q) at) (and_from (p == p) (q == q) (eq-eqb p p refl) (eq-eqb q q refl))
+
+  -- the right sides of its axioms are the plain words to which its edges lead
+  pub rights_told : (number : ℕ) (left : List ℕ) (edges : List (ℕ × ℕ)) → word_of k.dict number ≡ Some left → ((q : ℕ) → has_edge t number q ≡ leads_to edges q)
+      → rights_of (axioms_of k) left ≡ set_of (flat_map (plain_right k.dict) edges)
+  rights_told number left edges named from_here =
+      same_words (rights_of (axioms_of k) left) (rights_in k.dict edges)
+      (rights_sorted left (axioms_of k) (sorted_with_more pair_cmp pair_order [] (pairs_told k.dict k.axioms) (sorted_nil pair_cmp pair_order))) (sorted_set_of (flat_map (plain_right k.dict) edges)) to from
+    where
+      to : (w : List ℕ) → Among (rights_of (axioms_of k) left) w → Among (rights_in k.dict edges) w
+      to w m =
+          let pair = among_map (λ (p : List ℕ × List ℕ). p.1) (filter (λ (p : List ℕ × List ℕ). same_word p.0 left) (axioms_of k)) w m in
+          let kept = among_filter (λ (p : List ℕ × List ℕ). same_word p.0 left) (axioms_of k) pair.0 pair.1 in
+          let at = among_axiom k sound pair.0 kept.0 in
+          let right : word_of k.dict at.2 ≡ Some w = at.5 ∙ ap Some pair.2 in
+          let same : at.1 ≡ number = one_number k sound at.1 number left (at.4 ∙ ap Some ((same_word_decides (pair.0).0 left).0 kept.1)) named in
+          let edge : has_edge t number at.2 ≡ true = subst (λ p. has_edge t p at.2 ≡ true) same (tells.pairs at.1 at.2 (pair_there at.0 at.1 at.2 at.3)) in
+          let found = among_from_any (λ (e : ℕ × ℕ). nat_eq e.1 at.2) edges (sym (from_here at.2) ∙ edge) in
+          let there : word_of k.dict (found.0).1 ≡ Some w = ap (word_of k.dict) (eqb-true (found.0).1 at.2 found.2) ∙ right in
+          set_of_among (flat_map (plain_right k.dict) edges) w
+          (flat_map_among (plain_right k.dict) edges found.0 w found.1 (among_plain k.dict found.0 w there ((sound.axioms at.0 at.1 at.2 at.3).plain w right)))
+
+      from : (w : List ℕ) → Among (rights_in k.dict edges) w → Among (rights_of (axioms_of k) left) w
+      from w m =
+          let found = among_flat_map (plain_right k.dict) edges w (among_set_of (flat_map (plain_right k.dict) edges) w m) in
+          let q = (found.0).1 in
+          let told = only_plain (word_of k.dict q) w (only_word (plain_by (word_of k.dict q)) w found.2) in
+          let edge : has_edge t number q ≡ true = from_here q ∙ any_from_among (λ (e : ℕ × ℕ). nat_eq e.1 q) edges found.0 found.1 (eq-eqb q q refl) in
+          let slot = pair_slot k.axioms number q (edge_pair number q w told.0 told.1 edge) in
+          map_among (λ (p : List ℕ × List ℕ). p.1) (filter (λ (p : List ℕ × List ℕ). same_word p.0 left) (axioms_of k)) (left, w)
+          (filter_among (λ (p : List ℕ × List ℕ). same_word p.0 left) (axioms_of k) (left, w)
+          (axiom_among k sound slot.0 number q left w slot.1 named told.0) ((same_word_decides left left).1 refl))
 
 -- ---- whether a right side is taken
 pub is_taken : (last first : Option (List ℕ)) (word : List ℕ) → is_behind last word ≡ true → is_before word first ≡ true → Some word ≡ taken last first (Some word)

@@ -1,10 +1,8 @@
 -- The axioms of a word, in order.
-use Rattle.std.specs.Prelude.{ℕ, ◌==◌, Bool, true, if◌then◌else◌, Option, Some, None, List, map, filter}
+use Rattle.std.specs.Prelude.{ℕ, Bool, true, if◌then◌else◌, Option, Some, None, option_to_list, List, map, filter}
 use Rattle.std.specs.Ordering.{is_lt}
 use Rattle.lis_dict.specs.Dict.{Dict, word_of}
-use Rattle.lis_fields.specs.declared.slots.AxiomSlot.{AxiomSlot}
-use Rattle.lis_fields.specs.declared.slots.AxiomSlot.TheVariants.{Free as FreeAxiom, Pair}
-use Rattle.lis_words.specs.Words.{word_cmp, same_word}
+use Rattle.lis_words.specs.Words.{word_cmp, same_word, is_plain_word}
 
 -- the right sides of the axioms that have this left side, in their order
 abbrev pub rights_of : List (List ℕ × List ℕ) → List ℕ → List (List ℕ)
@@ -20,7 +18,11 @@ abbrev pub is_before : List ℕ → Option (List ℕ) → Bool
 is_before word None = true
 is_before word (Some next) = is_lt (word_cmp word next)
 
--- the right word of an axiom slot, if the number is that of its left word
-abbrev pub right_by : Dict → ℕ → AxiomSlot → Option (List ℕ)
-right_by dict left FreeAxiom = None
-right_by dict left (Pair from to) = if from == left then word_of dict to else None
+-- the word, if it is a plain one
+abbrev pub plain_by : Option (List ℕ) → Option (List ℕ)
+plain_by None = None
+plain_by (Some word) = if is_plain_word word then Some word else None
+
+-- the plain word to which an edge leads, if there is one
+abbrev pub plain_right : Dict → ℕ × ℕ → List (List ℕ)
+plain_right dict edge = option_to_list (plain_by (word_of dict edge.1))

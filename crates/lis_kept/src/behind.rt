@@ -1,18 +1,16 @@
 //! The axioms of a word, in order.
 
-ghost use Rattle.std.specs.Prelude.{◌≡◌, ℕ, Some, List, []};
-ghost use Rattle.std.specs.BTreeSet.{insert_key};
-ghost use Rattle.std.specs.List.{find, fold};
+ghost use Rattle.std.specs.Prelude.{◌≡◌};
+ghost use Rattle.std.specs.List.{find, flat_map};
 ghost use Rattle.std.specs.Option.{option_map};
-ghost use Rattle.lis_dict.specs.Dict.{IsDict, word_of};
-ghost use Rattle.lis_model.specs.State.{pair_cmp};
-ghost use Rattle.lis_kept.specs.Behind.{rights_of, is_behind, is_before, right_by};
-ghost use Rattle.lis_kept.specs.Telling.{pairs_told, axioms_of};
+ghost use Rattle.lis_dict.specs.Dict.{word_of};
+ghost use Rattle.lis_model.specs.Sets.{set_of};
+ghost use Rattle.lis_kept.specs.Behind.{rights_of, is_behind, is_before, plain_by, plain_right};
+ghost use Rattle.lis_kept.specs.Telling.{axioms_of};
 
 use crate::metadata::Metadata;
 use lis_dict::Dict;
-use lis_fields::AxiomSlot;
-use lis_words::Word;
+use lis_words::{Word, is_plain_word};
 
 // Whether a word comes after the last one, if there is one.
 fn is_behind(last: Option<&Word>, word: &Word) -> bool
@@ -34,28 +32,25 @@ fn is_before(word: &Word, next: &Option<Word>) -> bool
     }
 }
 
-// The right word of an axiom slot, if the number is that of its left word.
-fn right_of(dict: &Dict, slot: AxiomSlot, left: u32) -> Option<Word>
-    ensures { result ≡ right_by dict.now left slot }
+// The word that has a number, if it is a plain one. To such a word only axioms lead.
+fn plain_word(dict: &Dict, number: u32) -> Option<Word>
+    ensures { result ≡ plain_by (word_of dict.now number) }
 {
-    let AxiomSlot::Pair(from, to) = slot else {
-        return None;
-    };
-    if from != left {
-        return None;
+    let word = dict.word_of(number)?;
+    if is_plain_word(word.bytes()) {
+        Some(word)
+    } else {
+        None
     }
-    dict.word_of(to)
 }
 
-// Of the right words of axioms whose left word has this number, the first after the last one.
-fn first_right(dict: &Dict, axioms: &[AxiomSlot], left: u32, last: Option<&Word>) -> Option<Word>
-    requires { IsDict dict.now }
-    ensures { (word : List ℕ) → word_of dict.now left ≡ Some word
-        → result ≡ find (is_behind (option_map (λ w. w.now) last.entry)) (rights_of (fold (insert_key pair_cmp) [] (pairs_told dict.now axioms.now)) word) }
+// Of the plain words to which edges lead, the first after the last one.
+fn first_right(dict: &Dict, edges: &[(u32, u32)], last: Option<&Word>) -> Option<Word>
+    ensures { result ≡ find (is_behind (option_map (λ w. w.now) last.entry)) (set_of (flat_map (plain_right dict.now) edges.now)) }
 {
     let mut first = None;
-    for slot in axioms {
-        if let Some(word) = right_of(dict, *slot, left) {
+    for edge in edges {
+        if let Some(word) = plain_word(dict, edge.1) {
             if is_behind(last, &word) && is_before(&word, &first) {
                 first = Some(word);
             }
@@ -69,7 +64,7 @@ impl Metadata {
     pub fn axiom_behind(&self, left: &Word, last: Option<&Word>) -> Option<Word>
         ensures { result ≡ find (is_behind (option_map (λ w. w.now) last.entry)) (rights_of (axioms_of self.now) left.now) }
     {
-        let left = self.dict.id_of(left)?;
-        first_right(&self.dict, self.axioms.as_slice(), left, last)
+        let number = self.dict.id_of(left)?;
+        first_right(&self.dict, self.taxonomy().edges_from(number), last)
     }
 }

@@ -40,7 +40,7 @@ impl Store {
     }
 
     /// Of the words to which axioms lead from a word, the first one in byte order, or, if `last` is given, the first one after it. So a
-    /// loop gets the right sides of a word in order. One call looks once at each axiom slot.
+    /// loop gets the right sides of a word in order. One call looks once at each edge that leads from the word.
     pub fn axiom_behind(&self, left: &Word, last: Option<&Word>) -> Option<Word>
         ensures { result ≡ find (is_behind (option_map (λ w. w.now) last.entry)) (rights_of (axioms_of self.now.metadata) left.now) }
     {

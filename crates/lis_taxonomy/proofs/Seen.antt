@@ -1,7 +1,7 @@
 -- The value of the edges in contracts, and how one edge more or less changes it.
-use Rattle.std.proofs.Common.{◌≡◌, ◌⊎◌, ◌↔◌, Result, Ok, Err, IfOk, IfErr, is_ok, ℕ, ◌+◌, ◌*◌, ◌<◌, ◌≤◌, Bool, true, false, cond, not, ◌&&◌, ◌||◌, nat_eq, List, [], ◌∷◌, length, get_or, set, replicate, Decides, refl, sym, ap, subst, ◌∙◌, inl, inr, arith, length-set, get_or-set_same, get_or-set_other}
-use Rattle.std.proofs.lemmas.Bool.{cases_eq}
-use Rattle.std.proofs.lemmas.List.{length-replicate}
+use Rattle.std.proofs.Common.{◌≡◌, ◌⊎◌, ◌↔◌, Result, Ok, Err, IfOk, IfErr, is_ok, ℕ, ◌+◌, ◌-◌, ◌*◌, ◌<◌, ◌≤◌, Bool, true, false, cond, not, ◌&&◌, ◌||◌, nat_eq, eqb-true, eq-eqb, List, [], ◌∷◌, length, get_or, take, drop, set, replicate, Decides, refl, sym, ap, subst, ◌∙◌, inl, inr, arith, length-set, get_or-set_same, get_or-set_other}
+use Rattle.std.proofs.lemmas.Bool.{cases_eq, cases_lt}
+use Rattle.std.proofs.lemmas.List.{get_or-drop, get_or-take, length-drop, length-replicate, length-take-le}
 use Rattle.std.specs.Bool.{one_answer}
 use Rattle.std.specs.List.{list_any, insert, remove}
 use Rattle.std.specs.Ordering.{nat_cmp, eq_by_cmp}
@@ -14,10 +14,10 @@ use Rattle.lis_graph.specs.Graph as chains
 use Rattle.lis_graph.proofs.Members.{Among, among_from_any, any_from_among, contains_from_among}
 use Rattle.lis_graph.proofs.Pairs.{pairs_total, pairs_exact}
 use Rattle.lis_graph.proofs.Graph as graph
-use Rattle.lis_taxonomy.specs.Taxonomy.{pair_cmp, no_links, has_edge, Entails, IsAcyclic, with_edge, without_edge}
+use Rattle.lis_taxonomy.specs.Taxonomy.{pair_cmp, no_links, has_edge, leads_to, Entails, IsAcyclic, with_edge, without_edge}
 use Rattle.lis_limits.specs.declared.TheConstants.{MAX_PROPS}
 use Rattle.lis_taxonomy.specs.Search.{is_found}
-use Rattle.lis_taxonomy.specs.Inside.{edge_at, AreInOrder, AreEntered, IsGap, seen, IsSoundTaxonomy, IsSearched}
+use Rattle.lis_taxonomy.specs.Inside.{edge_at, rank, AreInOrder, AreEntered, IsPlace, IsGap, seen, IsSoundTaxonomy, IsSearched}
 use Rattle.lis_taxonomy.proofs.Laws.{nat_decides, no_links_ordered}
 use Rattle.lis_taxonomy.proofs.Searches.{has_at, only_start}
 use Rattle.lis_taxonomy.proofs.Places.{among_place, place_among, not_among, order_more, order_less, gone, among_insert, insert_among, among_remove, remove_among}
@@ -99,6 +99,60 @@ module _ (es : List (ℕ × ℕ)) (props : ℕ) where
   -- an edge has no way back
   pub no_way_back : Acyclic no_links es → (p q : ℕ) → has_edge (seen es props) p q ≡ true → Entails (seen es props) q p → ⊥
   no_way_back acyclic p q there back = let chain = seen_entails q p back in acyclic chain.0 p (q, inr (contains_from_among es (p, q) ((contains_decides es (p, q)).0 there)), chain.1)
+
+-- ---- the edges of a number are those between two places
+module _ (es : List (ℕ × ℕ)) (props : ℕ) (order : AreInOrder es props) (p start end : ℕ) (first : IsPlace es p 0 start) (last : IsPlace es (p + 1) 0 end) where
+  pub in_turn : start ≤ end
+  in_turn = by (cases_lt end start)
+    where
+      by : (end < start) ⊎ (start ≤ end) → start ≤ end
+      by (inl less) = absurd (omega (arith, first.within, first.before end less, last.after end (omega arith) (omega (arith, first.within))))
+      by (inr le) = le
+
+  part : List (ℕ × ℕ)
+  part = take (end - start) (drop start es)
+
+  part_at : (k : ℕ) → k < end - start → edge_at part k ≡ edge_at es (start + k)
+  unfolding part
+  part_at k lt = get_or-take (end - start) (drop start es) k (0, 0) lt ∙ get_or-drop start es k (0, 0)
+
+  part_long : length part ≡ end - start
+  unfolding part
+  part_long = length-take-le (end - start) (drop start es) (omega (arith, length-drop start es, last.within))
+
+  pub edges_between : (q : ℕ) → has_edge (seen es props) p q ≡ leads_to (take (end - start) (drop start es)) q
+  unfolding part
+  edges_between q = one_answer (has_edge (seen es props) p q) (leads_to part q) (contains_decides es (p, q)) (there, back)
+    where
+      there : leads_to part q ≡ true → Among es (p, q)
+      there h =
+          let found = among_from_any (λ (e : ℕ × ℕ). nat_eq e.1 q) part h in
+          let k = among_place part found.0 found.1 in
+          let within : k.0 < end - start = omega (arith, k.1, part_long) in
+          let i = start + k.0 in
+          let below : i < length es = omega (arith, within, last.within) in
+          let is : edge_at es i ≡ found.0 = sym (part_at k.0 within) ∙ k.2 in
+          let left : (edge_at es i).0 ≡ p = omega (arith, first.after i (omega arith) below, last.before i (omega (arith, within)), order.right i below, order.few) in
+          let right : (edge_at es i).1 ≡ q = ap (λ (e : ℕ × ℕ). e.1) is ∙ eqb-true (found.0).1 q found.2 in
+          place_among es (p, q) i below (λ j. (left j, right j))
+
+      back : Among es (p, q) → leads_to part q ≡ true
+      back m =
+          let k = among_place es (p, q) m in
+          let few : q < MAX_PROPS = subst (λ (e : ℕ × ℕ). e.1 < MAX_PROPS) k.2 (omega (arith, order.right k.0 k.1, order.few)) in
+          let rank_is = ap rank k.2 in
+          let low : start ≤ k.0 = by (cases_lt k.0 start) (λ less. omega (arith, first.before k.0 less, rank_is)) in
+          let high : k.0 < end = beyond (cases_lt k.0 end) (λ le. omega (arith, last.after k.0 le k.1, rank_is, few)) in
+          let here : edge_at part (k.0 - start) ≡ (p, q) = part_at (k.0 - start) (omega (arith, low, high)) ∙ (ap (edge_at es) (omega (arith, low)) ∙ k.2) in
+          any_from_among (λ (e : ℕ × ℕ). nat_eq e.1 q) part (p, q) (place_among part (p, q) (k.0 - start) (omega (arith, part_long, low, high)) here) (eq-eqb q q refl)
+        where
+          by : {a b : ℕ} → (a < b) ⊎ (b ≤ a) → (a < b → ⊥) → b ≤ a
+          by (inl less) none = absurd (none less)
+          by (inr le) none = le
+
+          beyond : {a b : ℕ} → (a < b) ⊎ (b ≤ a) → (b ≤ a → ⊥) → a < b
+          beyond (inl less) none = less
+          beyond (inr le) none = absurd (none le)
 
 -- ---- one edge more
 module _ (small big : List (ℕ × ℕ)) (props p q : ℕ)

@@ -31,6 +31,10 @@ no_links p = []
 abbrev pub has_edge : Taxonomy → ℕ → ℕ → Bool
 has_edge t p q = set.contains t.edges (p, q)
 
+-- one of these edges leads to q
+abbrev pub leads_to : List (ℕ × ℕ) → ℕ → Bool
+leads_to edges q = list_any (λ e. nat_eq e.1 q) edges
+
 abbrev pub edge_count : Taxonomy → ℕ
 edge_count t = set.len t.edges
 

@@ -1,7 +1,7 @@
 ghost use Rattle.std.specs.Prelude.{◌≡◌, ◌≢◌, ℕ, ◌+◌, ◌<◌, ◌≤◌, ◌↔◌, All, false, length, count_by, IfOk, OnOk, OnErr, IsTrue, Err};
 ghost use Rattle.std.specs.List.{range_with_len};
 
-use crate::edges::find;
+use crate::edges::{find, place_of};
 use crate::search::Search;
 use lis_bits::{Flags, Rows};
 use lis_limits::MAX_PROPS;
@@ -51,7 +51,7 @@ impl Model for Taxonomy {
 
 impl Taxonomy {
     ghost use Rattle.lis_taxonomy.specs.Search.{is_found};
-    ghost use Rattle.lis_taxonomy.specs.Taxonomy.{has_edge, edge_count, edge_room, Entails, IsAcyclic, LeadsToMarked, any_entails, empty_taxonomy, with_edge, without_edge};
+    ghost use Rattle.lis_taxonomy.specs.Taxonomy.{has_edge, leads_to, edge_count, edge_room, Entails, IsAcyclic, LeadsToMarked, any_entails, empty_taxonomy, with_edge, without_edge};
 
     /// A taxonomy of the numbers below `props`, with no edge.
     pub fn new(alloc: Global, props: u32) -> Result<Taxonomy, AllocError>
@@ -125,6 +125,16 @@ impl Taxonomy {
         ensures { result ≡ has_edge self.now p q }
     {
         find(&self.edges, p, q).is_ok()
+    }
+
+    /// The edges that lead from a number. It looks at no others, except to find them.
+    pub fn edges_from(&self, p: u32) -> &[(u32, u32)]
+        requires { p < self.now.props }
+        ensures { (q : ℕ) → has_edge self.now p q ≡ leads_to result.now q }
+    {
+        let start = place_of(&self.edges, p, 0);
+        let end = place_of(&self.edges, p + 1, 0);
+        &self.edges[start..end]
     }
 
     /// Finds all that the found numbers entail too.

@@ -4,16 +4,16 @@ use Rattle.lis_model.specs.declared.limits.Limits.{Limits}
 use Rattle.lis_model.specs.State.{State}
 use Rattle.lis_replay.specs.Dump.{file_lines}
 use Rattle.lis_dump.proofs.FilesTold.{few_files}
-use Rattle.lis_session.proofs.Shown.{to_none, to_more, to_broke, to_all}
+use Rattle.lis_dump.proofs.Paging.{to_none, to_more, to_broke, to_all}
 use Rattle.lis_dump.proofs.files.show_files.Goals as goal
 
 pub loop-k-init : goal.loop-k-init
-loop-k-init g c = to_none file_lines (λ (state : State). state.files) (g.T.Disk.meaning c.args.station.now)
+loop-k-init g c = to_none file_lines (λ (state : State). state.files) (g.T.Disk.meaning c.args.station.now) c.args.page.now.items
 
 pub show_file_at-requires-clause-usable : goal.show_file_at-requires-clause-usable
 show_file_at-requires-clause-usable g c = record {
   unbroken = c.requires.usable.unbroken;
-  long = omega (arith, c.requires.usable.long, c.loop-k.invariant.shows.ends.same.len);
+  long = omega (arith, c.requires.usable.long, c.loop-k.invariant.pages.shows.ends.same.len);
 }
 
 pub loop-k-preserved : goal.loop-k-preserved

@@ -1,24 +1,32 @@
-use Rattle.lis_kept.proofs.Common.{List, [], sym, ap, ◌∙◌, insert_key, find, fold, word_from_number, AxiomSlot}
+use Rattle.lis_kept.proofs.Common.{sym, ap, subst, ◌∙◌, find, word_from_number, number_below}
 use native.Mathlib.Omega.{arith}
 use Rattle.std.specs.Option.{option_map}
-use Rattle.lis_model.specs.State.{pair_cmp}
 use Rattle.lis_kept.specs.Metadata.{Metadata}
 use Rattle.lis_kept.specs.Behind.{rights_of, is_behind}
-use Rattle.lis_kept.specs.Telling.{pairs_told, axioms_of}
-use Rattle.lis_kept.proofs.FirstRight.{no_rights}
+use Rattle.lis_kept.specs.Links.{TellsLinks}
+use Rattle.lis_kept.specs.Telling.{axioms_of}
+use Rattle.lis_kept.specs.contracts.metadata.Metadata.{the_view}
+use Rattle.lis_kept.proofs.FirstRight.{no_rights, rights_told}
 use Rattle.lis_kept.proofs.metadata.Metadata.axiom_behind.Goals as goal
 
-pub first_right-requires : goal.first_right-requires
-first_right-requires c = c.self.invariant.sound.dict
+pub edges_from-requires : goal.edges_from-requires
+edges_from-requires c =
+    let sound = c.self.invariant.sound in
+    let below = number_below c.self.inside.dict sound.dict c.args.left.now c.in_ok-number.number (sym c.id_of.ensures ∙ c.in_ok-number.was) in
+    omega (arith, below, sound.numbers, ap (λ (k : Metadata). k.limits.props) c.self.view_is, c.taxonomy.ensures.props)
 
-pub returns-in_err-left : goal.returns-in_err-left
-returns-in_err-left c = grind (arith, no_rights _ c.self.invariant.sound c.args.left.now (sym c.id_of.ensures ∙ c.in_err-left.was))
+pub returns-in_err-number : goal.returns-in_err-number
+returns-in_err-number c = grind (arith, no_rights _ c.self.invariant.sound c.args.left.now (sym c.id_of.ensures ∙ c.in_err-number.was))
 
 pub returns : goal.returns
 returns c =
-    let last = option_map (λ w. w.now) c.args.last in
+    let sound = c.self.invariant.sound in
+    let t = c.taxonomy.result.now in
+    let first = find (is_behind (option_map (λ w. w.now) c.args.last)) in
     let left = c.args.left.now in
-    let d = c.self.inside.dict in
-    c.first_right.ensures left (word_from_number d c.self.invariant.sound.dict left c.in_ok-left.left (sym c.id_of.ensures ∙ c.in_ok-left.was))
-    ∙ (ap (λ (slots : List AxiomSlot). find (is_behind last) (rights_of (fold (insert_key pair_cmp) [] (pairs_told d slots)) left)) c.as_slice.ensures.value
-    ∙ ap (λ (k : Metadata). find (is_behind last) (rights_of (axioms_of k) left)) c.self.view_is)
+    let number = c.in_ok-number.number in
+    let tells = subst (λ k. TellsLinks k t) (sym c.self.view_is) c.taxonomy.ensures in
+    let named = word_from_number c.self.inside.dict sound.dict left number (sym c.id_of.ensures ∙ c.in_ok-number.was) in
+    c.first_right.ensures
+    ∙ (ap first (sym (rights_told (the_view c.self.inside) sound t tells number left c.edges_from.result.now named c.edges_from.ensures))
+    ∙ ap (λ (k : Metadata). first (rights_of (axioms_of k) left)) c.self.view_is)
