@@ -6,6 +6,6 @@ mod flags;
 mod rows;
 mod words;
 
-pub use across::{and_row, copy_row};
+pub use across::{and_row, copy_row, within};
 pub use flags::Flags;
 pub use rows::Rows;

@@ -2,6 +2,7 @@ mod Finds
 mod Entries
 pub mod Places
 mod Holders
+mod Indexes
 mod Signs
 pub mod Laws
 mod Repeats

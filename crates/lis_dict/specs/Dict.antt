@@ -1,7 +1,7 @@
 -- Words and their numbers: a finite map.
 use Rattle.std.specs.Prelude.{◌≡◌, ◌⊎◌, ℕ, ◌<◌, ◌≤◌, ◌==◌, nat_lt, not, Option, Some, None, Result, Ok, Err, List, map, filter, length, slice_index_or, IsTrue}
 use Rattle.std.specs.Option.{option_map}
-use Rattle.std.specs.List.{find, list_all}
+use Rattle.std.specs.List.{find, position, list_all}
 use Rattle.std.specs.BTreeSet.{insert_key}
 use Rattle.std.specs.declared.cmp.Ordering.{Ordering}
 use Rattle.lis_graph.specs.Graph.{is_rising}
@@ -29,6 +29,10 @@ number_of d word = option_map (λ e. e.1) (find (λ e. same_word e.0 word) d.ent
 -- the word that has a number
 abbrev pub word_of : Dict → ℕ → Option (List ℕ)
 word_of d number = option_map (λ e. e.0) (find (λ e. e.1 == number) d.entries)
+
+-- the index of the word that has a number, in the order of words
+abbrev pub place_of : Dict → ℕ → Option ℕ
+place_of d number = position (λ e. e.1 == number) d.entries
 
 -- entries are ordered by their words
 abbrev pub entry_cmp : List ℕ × ℕ → List ℕ × ℕ → Ordering

@@ -4,7 +4,7 @@ ghost use Rattle.std.specs.List.Sorted.{IsSearchInRange, IsPartitionPoint};
 ghost use Rattle.std.specs.declared.cmp.Ordering.TheVariants.{Less, Greater};
 ghost use Rattle.lis_limits.specs.declared.TheConstants.{MAX_PROPS};
 ghost use Rattle.lis_words.specs.Words.{is_property, word_cmp, test_of};
-ghost use Rattle.lis_dict.specs.Dict.{number_of, word_of, with_entry, without_word, IsDict, Adds};
+ghost use Rattle.lis_dict.specs.Dict.{number_of, word_of, place_of, with_entry, without_word, IsDict, Adds};
 ghost use Rattle.lis_dict.specs.Inside.{word_in, dict_of, IsSoundDict};
 
 use lis_words::Word;
@@ -113,6 +113,17 @@ impl Dict {
     {
         let number = *self.order.get(k as usize)?;
         Some((self.word_of(number)?, number))
+    }
+
+    /// The index, in byte order, of the word that has the number.
+    pub fn place_of(&self, number: u32) -> Option<u32>
+        ensures { result ≡ place_of self.now number }
+    {
+        let word = self.word_of(number)?;
+        let Ok(place) = self.search_bytes(word.bytes()) else {
+            unreachable!()
+        };
+        Some(place as u32)
     }
 
     /// The indexes in byte order between which all tests are: from the first one on, and before the second one.

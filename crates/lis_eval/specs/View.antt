@@ -1,7 +1,7 @@
 -- A table whose words have numbers and whose files have slots, and what the rows say of it.
 use Rattle.std.specs.Prelude.{◌≡◌, ℕ, ◌<◌, ◌≤◌, ◌==◌, ◌&&◌, Bool, true, false, Option, None, List, length, map}
 use Rattle.std.specs.Option.{option_map}
-use Rattle.std.specs.List.{find, list_any, Contains}
+use Rattle.std.specs.List.{find, position, list_any, Contains}
 use Rattle.lis_words.specs.Words.{same_word, has_word}
 use Rattle.lis_model.specs.declared.limits.Limits.{Limits}
 use Rattle.lis_model.specs.Table.{Table, Entry, entails}
@@ -37,6 +37,10 @@ table_of v = record {
 abbrev pub number_of : Seen → List ℕ → Option ℕ
 number_of v word = option_map (λ w. w.1) (find (λ w. same_word w.0 word) v.words)
 
+-- the index of the word that has a number, in the order of words
+abbrev pub place_of : Seen → ℕ → Option ℕ
+place_of v number = position (λ w. w.1 == number) v.words
+
 -- the slot of the file that has a name
 abbrev pub slot_of : Seen → List ℕ → Option ℕ
 slot_of v name = option_map (λ (f : Placed). f.slot) (find (λ (f : Placed). same_word f.entry.name name) v.files)
@@ -70,12 +74,13 @@ pub record IsView (v : Seen) : Type 0 where
   -- the step of a place for a word holds of a file exactly if the file has the word
   pub steps : (f : Placed) (w : List ℕ × ℕ) → Contains v.files f → Contains v.words w → holds (step_of w.0) f.entry ≡ has_word f.entry.words w.0
 
--- the rows have, for each known word, exactly the slots of the files that have the word
+-- the rows have, for each known word, exactly the slots of the files that have the word, and each number of a file is that of a known word
 pub record TellsFiles (v : Seen) (e : ext.Ext) : Type 0 where
   pub props : e.props ≡ v.limits.props
   pub files : length e.sets ≡ v.limits.files
   pub told : (w : List ℕ × ℕ) (f : Placed) → Contains v.words w → Contains v.files f → ext.has e w.1 f.slot ≡ has_word f.entry.words w.0
   pub none : (w : List ℕ × ℕ) (slot : ℕ) → Contains v.words w → slot < v.limits.files → file_in v slot ≡ None → ext.has e w.1 slot ≡ false
+  pub named : (f : Placed) (number : ℕ) → Contains v.files f → ext.has e number f.slot ≡ true → (w : List ℕ × ℕ) × Contains v.words w × (w.1 ≡ number)
 
 -- the rows have the entailments of the table
 pub record TellsEntailment (v : Seen) (t : taxonomy.Taxonomy) : Type 0 where

@@ -3,7 +3,7 @@
 ghost use Rattle.std.specs.Prelude.{◌≡◌, IsSome, IsSomeAnd, slice_get, option_map};
 ghost use Rattle.lis_ext.specs.Ext as ext;
 ghost use Rattle.lis_taxonomy.specs.Taxonomy as taxonomy;
-ghost use Rattle.lis_eval.specs.View.{Seen, Placed, number_of, slot_of, name_and_slot, file_in, IsView, TellsFiles, TellsEntailment};
+ghost use Rattle.lis_eval.specs.View.{Seen, Placed, number_of, place_of, slot_of, name_and_slot, file_in, IsView, TellsFiles, TellsEntailment};
 
 use lis_ext::Ext;
 use lis_taxonomy::Taxonomy;
@@ -24,6 +24,10 @@ pub trait View {
     /// The k-th word in byte order, and its number.
     fn word_at(&self, k: u32) -> Option<(Word, u32)>
         ensures { result ≡ slice_get (seen self.now).words k };
+
+    /// The index, in byte order, of the word that has a number.
+    fn place_of(&self, number: u32) -> Option<u32>
+        ensures { result ≡ place_of (seen self.now) number };
 
     /// The slot of the file that has a name.
     fn slot_of(&self, name: &Name) -> Option<u32>

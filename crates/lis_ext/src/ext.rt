@@ -1,4 +1,4 @@
-ghost use Rattle.std.specs.Prelude.{◌≡◌, ℕ, ◌+◌, ◌*◌, ◌%◌, ◌<◌, ◌≤◌, ◌&&◌, All, [], length, slice_get, slice_set, slice_index, IfOk};
+ghost use Rattle.std.specs.Prelude.{◌≡◌, ℕ, ◌+◌, ◌*◌, ◌%◌, ◌<◌, ◌≤◌, ◌↔◌, ◌&&◌, All, [], length, slice_get, slice_set, slice_index, IfOk, IsTrue};
 ghost use Rattle.std.specs.List.{list_any};
 ghost use Rattle.std.specs.List.Sorted.{IsStrictlyIncreasing};
 ghost use Rattle.lis_bits.specs.Rows.{HasShape, get, with_row};
@@ -7,7 +7,7 @@ ghost use Rattle.lis_ext.specs.Numbers.{differs, has_number, numbers_where};
 
 use crate::lists::Lists;
 use crate::tables;
-use lis_bits::{Rows, and_row, copy_row};
+use lis_bits::{Rows, and_row, copy_row, within};
 use lis_limits::{MAX_DESCRIPTION, MAX_FILES, MAX_PROPS};
 use std::alloc::{AllocError, Global};
 use std::marker::Model;
@@ -160,6 +160,17 @@ impl Ext {
             }
         }
         many
+    }
+
+    /// Whether each file in row 0 has a number.
+    pub fn all_have(&self, prop: u32, found: &Rows) -> bool
+        requires prop { prop < self.now.props }
+        requires row { 0 < length found.now.rows }
+        requires bits { found.now.bits ≡ length self.now.sets }
+        ensures { IsTrue result
+            ↔ ((i : ℕ) → i < length self.now.sets → IsTrue (get found.now 0 i) → IsTrue (has self.now prop i)) }
+    {
+        within(found, 0, &self.rows, prop)
     }
 
     /// Keeps in a row only the files that have a number.

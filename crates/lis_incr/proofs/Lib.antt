@@ -3,3 +3,5 @@ mod Marked
 mod Tops
 mod Shown
 mod Routes
+mod Own
+mod Firsts

@@ -35,9 +35,9 @@ module _ (v : Seen) (test : List ℕ → Bool) where
   pub marked_all : (k : ℕ) (marks : Rows) → take k v.words ≡ v.words → MarkedTo v test k marks → AreMarked v test marks
   marked_all k marks all to = record { shape = to.shape; marked = λ n lt. to.marked n lt ∙ ap (λ (ws : List (List ℕ × ℕ)). number_passes ws test n) all }
 
-  -- a word is marked exactly if it passes
-  pub marked_at : IsView v → (marks : Rows) → AreMarked v test marks → (w : List ℕ × ℕ) → Contains v.words w → get marks 0 w.1 ≡ test w.0
-  marked_at kept marks are w there = are.marked w.1 (kept.numbers w there) ∙ one_answer (number_passes v.words test w.1) (test w.0) (only, all) (λ e. e, λ e. e)
+  -- the number of a word passes exactly if the word does
+  pub word_passes : IsView v → (w : List ℕ × ℕ) → Contains v.words w → number_passes v.words test w.1 ≡ test w.0
+  word_passes kept w there = one_answer (number_passes v.words test w.1) (test w.0) (only, all) (λ e. e, λ e. e)
     where
       only : number_passes v.words test w.1 ≡ true → test w.0 ≡ true
       only any =
@@ -48,6 +48,10 @@ module _ (v : Seen) (test : List ℕ → Bool) where
 
       all : test w.0 ≡ true → number_passes v.words test w.1 ≡ true
       all passes = any_from_among (λ (x : List ℕ × ℕ). (x.1 == w.1) && test x.0) v.words w (among_from_contains v.words w there) (and_from (w.1 == w.1) (test w.0) (eq-eqb w.1 w.1 refl) passes)
+
+  -- a word is marked exactly if it passes
+  pub marked_at : IsView v → (marks : Rows) → AreMarked v test marks → (w : List ℕ × ℕ) → Contains v.words w → get marks 0 w.1 ≡ test w.0
+  marked_at kept marks are w there = are.marked w.1 (kept.numbers w there) ∙ word_passes kept w there
 
   -- a number that is marked is that of a word that passes
   pub marked_only : (marks : Rows) → AreMarked v test marks → (n : ℕ) → n < v.limits.props → get marks 0 n ≡ true → (w : List ℕ × ℕ) × Contains v.words w × (w.1 ≡ n) × (test w.0 ≡ true)

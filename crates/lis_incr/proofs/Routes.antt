@@ -1,9 +1,9 @@
 -- The way to a file, step by step, is the route of the model.
-use Rattle.std.proofs.Common.{◌≡◌, ◌⊎◌, ℕ, zero, suc, ◌+◌, ◌<◌, ◌≤◌, ◌==◌, Bool, true, false, cond, not, ◌&&◌, Option, Some, None, List, [], ◌∷◌, ◌++◌, length, map, filter, take, drop, get_or, unwrap_or, refl, sym, ap, subst, ◌∙◌, inl, inr, arith, add-zero, append_assoc, length-append, length-take, get_or-take}
+use Rattle.std.proofs.Common.{◌≡◌, ◌⊎◌, ℕ, zero, suc, ◌+◌, ◌-◌, ◌<◌, ◌≤◌, ◌==◌, Bool, true, false, cond, not, ◌&&◌, Option, Some, None, List, [], ◌∷◌, ◌++◌, length, map, filter, take, drop, get_or, unwrap_or, refl, sym, ap, subst, ◌∙◌, inl, inr, arith, add-zero, append_assoc, length-append, length-take, get_or-take}
 use Rattle.std.specs.Option.{option_map, option_or}
 use Rattle.std.specs.List.{slice_get, find, list_any, Contains}
 use Rattle.std.proofs.lemmas.Bool.{cases_lt, and_parts}
-use Rattle.std.proofs.lemmas.List.{take_more, take-append-drop, map-append, drop_more, get_or_default}
+use Rattle.std.proofs.lemmas.List.{take_more, take-append-drop, map-append, drop_more, get_or_default, append-nil}
 use Rattle.std.proofs.Math.ListN.{get_or-append}
 use Rattle.std.proofs.Math.Seq.{get_or-append_seam}
 use Rattle.std.proofs.lemmas.List.Folds.{find-append, list_all-append}
@@ -34,9 +34,6 @@ module _ {X : Type 0} (test : X → Bool) (xs : List X) (k : ℕ) (x : X) (none 
 
   before : find test (take (k + 1) xs) ≡ find test (x ∷ [])
   before = ap (find test) one_more ∙ (find-append test (take k xs) (x ∷ []) ∙ ap (λ o. option_or o (find test (x ∷ []))) none)
-
-  pub still_none : test x ≡ false → find test (take (k + 1) xs) ≡ None
-  still_none fails = before ∙ rw fails
 
   pub found_here : test x ≡ true → find test xs ≡ Some x
   found_here passes =
@@ -191,6 +188,14 @@ steps_next v items steps step place w lt few is at =
     let here : step < length (take steps items) = omega (arith, length-take {A = ℕ}) in
     let first : get_or (take steps items) step 0 ≡ place = get_or-take steps items step 0 lt ∙ (get_or_default items step 0 place (omega arith) ∙ sym is) in
     ap (words_of v) (drop_more (take steps items) step 0 here) ∙ ap (λ (word : List ℕ). word ∷ words_of v (drop (step + 1) (take steps items))) (ap (word_of v) first ∙ word_at v place w at)
+
+-- no step yet
+pub walks_start : (v : Seen) (found : Rows) (most : ℕ) (place : List Formula) (e : Entry) → TellsTest v (get found 0) (holds_all place) → Walks v found (most - 0) [] place e (route_within most (table_of v) place e)
+walks_start v found most place e tells = let all : most - 0 ≡ most = omega arith in record { tells = rw (append-nil place) tells; rest = rw (append-nil place, all) refl }
+
+-- the file has the word of its first step
+pub step_had : (v : Seen) (found : Rows) (e : Entry) (w : List ℕ × ℕ) → find (is_step v found e) v.words ≡ Some w → has_word e.words w.0 ≡ true
+step_had v found e w first = (and_parts (is_increment (table_of v) (found_files v found) w.0) (has_word e.words w.0) (find_is (is_step v found e) v.words w first).1).1
 
 -- one more step
 pub walks_on : (v : Seen) → IsView v → (old new : Rows) (left : ℕ) (places : List ℕ) (k : ℕ) (w : List ℕ × ℕ) (place : List Formula) (e : Entry) (all : List (List ℕ)) → Walks v old (suc left) places place e all

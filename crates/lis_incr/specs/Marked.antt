@@ -1,10 +1,11 @@
 -- Rows of marks on words and on files. No public clause cites this module.
-use Rattle.std.specs.Prelude.{◌≡◌, ℕ, ◌<◌, ◌≤◌, ◌==◌, nat_lt, Bool, false, not, ◌&&◌, None, List, length, map, filter, take, slice_index}
+use Rattle.std.specs.Prelude.{◌≡◌, ℕ, ◌<◌, ◌≤◌, ◌==◌, nat_lt, Bool, true, false, if◌then◌else◌, not, ◌&&◌, None, List, length, map, filter, take, slice_index}
 use Rattle.std.specs.List.{list_any, Contains}
 use Rattle.lis_words.specs.Words.{same_word, has_word}
 use Rattle.lis_bits.specs.Rows.{Rows, HasShape, get}
 use Rattle.lis_model.specs.Table.{Table, Entry, entails}
 use Rattle.lis_model.specs.Listing.{is_candidate, is_local}
+use Rattle.lis_ext.specs.Numbers.{has_number}
 use Rattle.lis_eval.specs.View.{Placed, Seen, file_in}
 
 -- the files whose slots are in the row
@@ -24,6 +25,15 @@ number_passes words test n = list_any (λ (w : List ℕ × ℕ). (w.1 == n) && t
 pub record AreMarked (v : Seen) (test : List ℕ → Bool) (marks : Rows) : Type 0 where
   pub shape : HasShape marks 1 v.limits.props
   pub marked : (n : ℕ) → n < v.limits.props → get marks 0 n ≡ number_passes v.words test n
+
+-- each number in the row is in the list
+abbrev pub MarksOnly : Seen → List ℕ → Rows → Type 0
+MarksOnly v numbers marks = (n : ℕ) → n < v.limits.props → get marks 0 n ≡ true → has_number numbers n ≡ true
+
+-- the row has, of the numbers in the list, those of the words that pass the test, and of the others those that it had before
+pub record MarkedOf (v : Seen) (test : List ℕ → Bool) (numbers : List ℕ) (old marks : Rows) : Type 0 where
+  pub shape : HasShape marks 1 v.limits.props
+  pub marked : (n : ℕ) → n < v.limits.props → get marks 0 n ≡ (if has_number numbers n then number_passes v.words test n else get old 0 n)
 
 -- the row has those of the first k words
 pub record MarkedTo (v : Seen) (test : List ℕ → Bool) (k : ℕ) (marks : Rows) : Type 0 where

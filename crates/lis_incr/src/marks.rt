@@ -1,13 +1,14 @@
 //! Which words split the files found, and which files no such word covers.
 
-ghost use Rattle.std.specs.Prelude.{◌≡◌, ◌≢◌, ℕ, ◌<◌, ◌==◌, ◌&&◌, ◌||◌, not, All, List, length};
+ghost use Rattle.std.specs.Prelude.{◌≡◌, ◌≢◌, ℕ, ◌<◌, ◌==◌, ◌&&◌, ◌||◌, true, not, All, List, length};
 ghost use Rattle.std.specs.List.{Contains, list_any};
 ghost use Rattle.lis_bits.specs.Rows.{HasShape, get, SetsBits};
 ghost use Rattle.lis_words.specs.Words.{has_word};
 ghost use Rattle.lis_model.specs.Table.{Entry};
 ghost use Rattle.lis_model.specs.Listing.{is_candidate};
 ghost use Rattle.lis_eval.specs.View.{Placed, IsView};
-ghost use Rattle.lis_incr.specs.Marked.{found_files, Finds, AreMarked, SplitBy, LeavesLocals, splits_by, is_covered};
+ghost use Rattle.lis_ext.specs.Ext.{set_of};
+ghost use Rattle.lis_incr.specs.Marked.{found_files, Finds, AreMarked, MarksOnly, SplitBy, LeavesLocals, splits_by, is_covered};
 
 use lis_bits::{Rows, copy_row};
 use lis_eval::View;
@@ -121,53 +122,31 @@ pub(crate) fn leave_locals<V: View>(
     }
 }
 
-// Marks a word that splits the files and that the file in the slot has.
-fn mark_own<V: View>(
-    view: &V,
-    counts: &[u32],
-    many: u32,
-    candidates: &mut Rows,
-    slot: u32,
-    number: u32,
-)
-    requires number { number < length counts.now }
-    requires room { length counts.now ≡ (V.seen view.now).limits.props }
-    requires candidates { HasShape candidates.old 1 (V.seen view.now).limits.props }
-    requires slot { slot < (V.seen view.now).limits.files }
-    ensures shape { HasShape candidates.new 1 (V.seen view.now).limits.props }
-    ensures marks { (f : Placed) (w : List ℕ × ℕ) → Contains (V.seen view.now).files f → f.slot ≡ slot → Contains (V.seen view.now).words w → w.1 ≡ number
-        → SetsBits candidates.old candidates.new 1 (V.seen view.now).limits.props 0
-        (λ n. get candidates.old 0 n || ((number == n) && (has_word f.entry.words w.0 && splits_by counts.now many number))) }
+// Whether some of the files found lacks the word of a number.
+fn is_lacked<V: View>(view: &V, found: &Rows, number: u32) -> bool
+    requires found { Finds (V.seen view.now) found.now }
+    requires number { number < (V.seen view.now).limits.props }
+    ensures { (w : List ℕ × ℕ) → Contains (V.seen view.now).words w → w.1 ≡ number
+        → result ≡ list_any (λ (e : Entry). not (has_word e.words w.0)) (found_files (V.seen view.now) found.now) }
 {
-    if !view.ext().has(number, slot) {
-        return;
-    }
-    mark_number(counts, many, candidates, number);
+    !view.ext().all_have(number, found)
 }
 
-// Marks the words of the file in the slot that split the files.
-pub(crate) fn mark_all_own<V: View>(
-    view: &V,
-    counts: &[u32],
-    many: u32,
-    candidates: &mut Rows,
-    slot: u32,
-    props: u32,
-)
+// Marks those words of the file in the slot that split the files found, of which it is one. Before, only words of the file were marked.
+pub(crate) fn mark_own<V: View>(view: &V, found: &Rows, candidates: &mut Rows, slot: u32)
+    requires found { Finds (V.seen view.now) found.now }
     requires kept { IsView (V.seen view.now) }
-    requires props { props ≡ (V.seen view.now).limits.props }
-    requires room { length counts.now ≡ (V.seen view.now).limits.props }
-    requires candidates { HasShape candidates.old 1 (V.seen view.now).limits.props }
     requires slot { (f : Placed) × Contains (V.seen view.now).files f × (f.slot ≡ slot) }
+    requires here { get found.now 0 slot ≡ true }
+    requires candidates { HasShape candidates.old 1 (V.seen view.now).limits.props }
+    requires own { MarksOnly (V.seen view.now) (set_of (V.rows view.now) slot) candidates.old }
     ensures shape { HasShape candidates.new 1 (V.seen view.now).limits.props }
-    ensures marked { (files : List Entry) (f : Placed) → SplitBy (V.seen view.now) files counts.now many → Contains (V.seen view.now).files f → f.slot ≡ slot
-        → AreMarked (V.seen view.now) (λ word. has_word f.entry.words word && is_candidate files word) candidates.new }
+    ensures own { MarksOnly (V.seen view.now) (set_of (V.rows view.now) slot) candidates.new }
+    ensures marked { (f : Placed) → Contains (V.seen view.now).files f → f.slot ≡ slot
+        → AreMarked (V.seen view.now) (λ word. has_word f.entry.words word && is_candidate (found_files (V.seen view.now) found.now) word) candidates.new }
 {
-    candidates.fill(0, false);
-    for k in 0..props {
-        match view.word_at(k) {
-            None => return,
-            Some((_, number)) => { mark_own(view, counts, many, candidates, slot, number) }
-        }
+    let numbers = view.ext().numbers(slot);
+    for number in numbers {
+        candidates.put(0, *number, is_lacked(view, found, *number));
     }
 }

@@ -5,7 +5,7 @@ ghost use Rattle.std.specs.List.Sorted.{IsStrictlyIncreasing};
 ghost use Rattle.std.specs.Option.{option_map};
 ghost use Rattle.lis_blockmap.specs.Bitmap.{free_count, is_taken};
 ghost use Rattle.lis_catalog.specs.Catalog.{Filed, slot_of, rec_at};
-ghost use Rattle.lis_dict.specs.Dict.{number_of, word_of};
+ghost use Rattle.lis_dict.specs.Dict.{number_of, word_of, place_of};
 ghost use Rattle.lis_ext.specs.Ext.{set_of};
 ghost use Rattle.lis_fields.specs.Records.{FileRecord};
 ghost use Rattle.lis_words.specs.Words.{is_file_name, test_of};
@@ -54,6 +54,13 @@ impl Metadata {
         ensures { result ≡ slice_get self.now.dict.entries k }
     {
         self.dict.word_at(k)
+    }
+
+    /// The index, in byte order, of the word that has a number.
+    pub fn place_of(&self, number: u32) -> Option<u32>
+        ensures { result ≡ place_of self.now.dict number }
+    {
+        self.dict.place_of(number)
     }
 
     /// The indexes in byte order between which all tests are: from the first one on, and before the second one.

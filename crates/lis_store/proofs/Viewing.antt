@@ -1,7 +1,7 @@
 -- What memory keeps is a view, and its rows and its taxonomy represent it.
 use Rattle.std.proofs.Common.{eq-eqb}
 use Rattle.lis_words.specs.declared.test.Test.{Test}
-use Rattle.lis_store.proofs.Common.{common_steps, ◌≡◌, ℕ, ◌==◌, ◌&&◌, nat_lt, true, List, map, is_some, Option, Some, None, refl, sym, ap, ap₂, ◌∙◌, subst, arith, list_any, Contains, and_parts, eqb-true, ltb-true, length-map, same_Some, Among, among_from_contains, contains_from_among, number_of, word_of, number_below, Filed, slot_of, rec_at, has, numbers_at, Taxonomy, leads, entails_decides, FileRecord, same_word, has_word, test_of, up, is_met, same_word_decides, among_from_has_word, Placed, Metadata, AreSound, FreeSlotsAreEmpty, declared_of, axioms_of, test_by, TellsLinks, filed_rec, filed_slot, filed_at_slot, among_word, number_told, and_from, both_ways, among_from_any, any_from_among, among_map, map_among, words, has_word_from_among, all_among, same_tests, words_told}
+use Rattle.lis_store.proofs.Common.{common_steps, ◌≡◌, ℕ, ◌==◌, ◌&&◌, nat_lt, true, List, map, is_some, Option, Some, None, refl, sym, ap, ap₂, ◌∙◌, subst, arith, list_any, some_word, Contains, and_parts, eqb-true, ltb-true, length-map, same_Some, Among, among_from_contains, contains_from_among, number_of, word_of, number_below, Filed, slot_of, rec_at, has, numbers_at, Taxonomy, leads, entails_decides, FileRecord, same_word, has_word, test_of, up, is_met, same_word_decides, among_from_has_word, Placed, Metadata, AreSound, FreeSlotsAreEmpty, declared_of, axioms_of, test_by, TellsLinks, filed_rec, filed_slot, filed_at_slot, among_word, number_told, and_from, both_ways, among_from_any, any_from_among, among_map, map_among, words, has_word_from_among, all_among, same_tests, words_told}
 use Rattle.lis_dict.proofs.Laws.{among_from_word, number_from_among, word_from_among}
 use Rattle.lis_model.specs.Tests.{step_by}
 use Rattle.lis_model.specs.Table.{Entry, entails}
@@ -111,6 +111,11 @@ module _ (k : Metadata) (sound : AreSound k) where
     files = sound.files;
     told = told_by_rows;
     none = λ w slot there lt none. free slot (empty slot none) w.1;
+    named = λ f number there has_it.
+        let g = filed f there in
+        let there = ap (λ (x : Placed). rec_at k.catalog x.slot) (sym g.2) ∙ filed_rec k.catalog sound.catalog g.0 g.1 in
+        let word = some_word (word_of k.dict number) (sound.named number f.slot (ap is_some there) has_it) in
+        ((word.0, number), contains_from_among k.dict.entries (word.0, number) (among_from_word k.dict word.0 number word.1), refl);
   }
     where
       empty : (slot : ℕ) → file_in (seen_of k) slot ≡ None → rec_at k.catalog slot ≡ None

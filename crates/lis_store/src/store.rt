@@ -322,6 +322,10 @@ impl View for Store {
         self.memory.metadata.word_at(k)
     }
 
+    fn place_of(&self, number: u32) -> Option<u32> {
+        self.memory.metadata.place_of(number)
+    }
+
     fn slot_of(&self, name: &Name) -> Option<u32> {
         self.memory.metadata.slot_of(name)
     }

@@ -1,17 +1,39 @@
-use Rattle.std.proofs.Common.{◌≡◌, suc, ◌+◌, ◌-◌, ◌&&◌, ◌++◌, [], ◌∷◌, ◌<◌, length, take, sym, ap, subst, ◌∙◌, arith, length-set}
-use Rattle.std.proofs.lemmas.Bool.{and_parts, and_left}
+use Rattle.std.proofs.Common.{◌≡◌, false, suc, ◌+◌, ◌-◌, ◌&&◌, ◌++◌, ◌<◌, length, take, sym, ap, subst, ◌∙◌, arith, length-set}
+use Rattle.std.proofs.lemmas.Bool.{and_parts, and_from, and_left}
 use Rattle.std.proofs.lemmas.List.{take_more_set, append-nil}
 use Rattle.std.proofs.lemmas.Option.{slice_get_within}
 use Rattle.lis_bits.specs.Rows.{get, with_row}
-use Rattle.lis_bits.proofs.Laws.{row_sets}
+use Rattle.lis_bits.proofs.Laws.{row_sets, new_row, shaped}
 use Rattle.lis_ext.specs.Ext as ext
 use Rattle.lis_model.specs.Route.{route_within}
 use Rattle.lis_eval.specs.View.{table_of}
 use Rattle.lis_eval.proofs.Members.{contains_at}
 use Rattle.lis_incr.specs.Ways.{words_of, further, Walks}
 use Rattle.lis_incr.proofs.Found.{has_told}
-use Rattle.lis_incr.proofs.Routes.{ends, known_more, walks_on}
+use Rattle.lis_incr.proofs.Routes.{ends, known_more, step_had, walks_start, walks_on}
 use Rattle.lis_incr.proofs.walk.walk.Goals as goal
+
+pub loop-step-init : goal.loop-step-init
+loop-step-init g c =
+    let v = g.V.View.seen c.args.view.now in
+    let old = c.args.scratch.now.candidates in
+    let room = c.requires.room in
+    rw c.fill.ensures (record {
+      own = λ n lt set. let none = new_row old 1 v.limits.props 0 n (λ _. false) room.candidates (omega arith) lt in absurd cc;
+      here = c.requires.here;
+      finds = c.requires.found;
+      room = record {
+        within = room.within;
+        files = room.files;
+        locals = room.locals;
+        candidates = shaped old 1 v.limits.props 0 (λ _. false) room.candidates;
+        increments = room.increments;
+        counts = room.counts;
+        route = room.route;
+      };
+      known = λ i below. absurd (omega (arith, below));
+      walks = λ f place here placed tells. walks_start v c.args.scratch.now.files c.args.most place f.entry tells;
+    })
 
 pub returns-in-None-clause-steps : goal.returns-in-None-clause-steps
 returns-in-None-clause-steps g c = λ f place here placed tells.
@@ -49,7 +71,12 @@ loop-step-preserved g c =
     let first = c.in-Some.ensures.first own.0 own.1 own.2 in
     let left : c.args.most - step ≡ suc (c.args.most - (step + 1)) = omega arith in
     let within : step < length route = omega (arith, c.loop-step-test.true, c.requires.most, l.invariant.room.route) in
+    let goes = c.first_step.ensures.own in
+    let has = step_had v found own.0.entry first.0 first.3 in
+    let in_slot = ap (ext.has e number) (sym own.2) ∙ (has_told v e c.ext.ensures.told first.0 (contains_at v.words place first.0 first.1) number first.2 own.0 own.1 ∙ has) in
     rw (c.first_step.ensures.route, take_more_set route step place within) (record {
+      own = goes;
+      here = sets.at c.args.slot (let low = kept.slots own.0 own.1 in let same = own.2 in omega arith) ∙ and_from (get found 0 c.args.slot) (ext.has e number c.args.slot) l.invariant.here in_slot;
       finds = record {
         shape = sets.shape;
         none = λ slot lt free. sets.at slot lt ∙ and_left (get found 0 slot) (ext.has e number slot) (l.invariant.finds.none slot lt free);
