@@ -7,6 +7,7 @@ use Rattle.lis_words.proofs.Bytes.{length_padded}
 use Rattle.lis_words.proofs.Tests.{word_is_property, property_short}
 use Rattle.lis_model.specs.State.{is_declarable, file_limit, blocks_needed}
 use Rattle.lis_model.specs.declared.limits.Limits.{Limits}
+use Rattle.lis_model.proofs.Stored.{limit_le}
 use Rattle.lis_fields.specs.Records.{FileRecord}
 use Rattle.lis_fields.specs.Layouts.{zeros, text_bytes, named, prop_bytes, is_prop, is_undeclared, file_start, number_width, numbers, record_bytes, file_bytes, are_tags, slot_blocks, are_blocks, is_record, is_file}
 use Rattle.lis_fields.specs.declared.slots.PropSlot.{PropSlot}
@@ -97,12 +98,7 @@ few_blocks version size blocks h = eqb-true (length blocks) (slot_blocks version
 
 -- a file of any version has at most 67,108,864 bytes
 pub size_fits : (limits : Limits) (size : ℕ) → size ≤ file_limit limits → size ≤ 67108864
-size_fits limits size small = by (limits.version == 1) (limits.version == 2) small
-  where
-    by : (one two : Bool) → size ≤ (if one then 65536 else if two then 1048576 else min 67108864 (4096 * limits.blocks)) → size ≤ 67108864
-    by true two le = omega (arith, le)
-    by false true le = omega (arith, le)
-    by false false le = omega (arith, le)
+size_fits limits size small = omega (arith, small, limit_le limits)
 
 -- the numbers of a slot: those of the blocks of the content, if it may number these itself, and otherwise those of the index blocks
 abbrev numbers_by : Bool → ℕ → ℕ

@@ -1,12 +1,11 @@
 -- The parts of a super block, read back from their spelling, and what another gate makes of one.
-use Rattle.std.proofs.Common.{◌≡◌, refl, sym, ap, ◌∙◌, subst, ℕ, ◌^◌, ◌%◌, ◌<◌, ◌≤◌, ◌==◌, nat_le, Bool, true, false, if◌then◌else◌, ◌&&◌, inl, inr, ◌⊎◌, List, ◌∷◌, ◌++◌, length, get_or, take, drop, IsTrue, arith}
-use Rattle.std.specs.List.{list_any, range_with_len}
-use Rattle.std.proofs.lemmas.Bool.{and_parts, and_from, eqb-true, leb-true}
+use Rattle.std.proofs.Common.{◌≡◌, refl, sym, ap, ◌∙◌, subst, ℕ, ◌^◌, ◌%◌, ◌<◌, ◌==◌, nat_le, Bool, true, false, if◌then◌else◌, ◌&&◌, inl, inr, ◌⊎◌, List, ◌∷◌, ◌++◌, length, get_or, take, drop, IsTrue, arith}
+use Rattle.std.proofs.lemmas.Bool.{and_parts, and_from, eqb-true}
 use Rattle.std.proofs.lemmas.Bool.Decides.{nat_tests}
 use Rattle.std.proofs.lemmas.List.{drop_more}
 use Rattle.lis_model.specs.declared.limits.Limits.{Limits}
-use Rattle.lis_model.specs.Ranges.{most_files, most_props, most_blocks, is_files_limit, is_props_limit, is_blocks_limit, is_version, are_in_range, are_stored}
-use Rattle.lis_model.proofs.Stored.{stored_parts, stored_range}
+use Rattle.lis_model.specs.Ranges.{is_files_limit, is_props_limit, is_blocks_limit, is_version, are_in_range, are_stored}
+use Rattle.lis_model.proofs.Stored.{stored_parts, stored_range, within_most}
 use Rattle.lis_fields.specs.Layouts.{zeros, super_start, super_numbers, gate_version, is_gate, version_gate, super_with, super_bytes, SpellsSuper}
 use Rattle.lis_fields.proofs.Widths.{joined, same_number, length_zeros}
 
@@ -16,24 +15,10 @@ pub record FitsSuper (limits : Limits) : Type 0 where
   pub props : limits.props < 256 ^ 4
   pub blocks : limits.blocks < 256 ^ 4
 
-most_of : (version few many n : ℕ) → nat_le n (if version == 3 then many else few) ≡ true → few ≤ many → n ≤ many
-most_of version few many n le less = by (version == 3) le
-  where
-    by : (three : Bool) → nat_le n (if three then many else few) ≡ true → n ≤ many
-    by true all = leb-true n many all
-    by false all = let most = leb-true n few all in omega (arith, most, less)
-
 pub super_fits : (limits : Limits) → IsTrue (are_in_range limits) → FitsSuper limits
 super_fits limits h =
-    let v = limits.version in
-    let three = and_parts (is_files_limit v limits.files && is_props_limit v limits.props && is_blocks_limit v limits.blocks) (is_version v) h in
-    let two = and_parts (is_files_limit v limits.files && is_props_limit v limits.props) (is_blocks_limit v limits.blocks) three.0 in
-    let one = and_parts (is_files_limit v limits.files) (is_props_limit v limits.props) two.0 in
-    let files = most_of v 4096 262144 limits.files (and_parts (list_any (λ k. limits.files == 2 ^ k) (range_with_len 6 13)) (nat_le limits.files (most_files v)) one.0).1 (omega arith) in
-    let props = and_parts (nat_le 64 limits.props && nat_le limits.props (most_props v)) (limits.props % 64 == 0) one.1 in
-    let props = most_of v 8192 1048576 limits.props (and_parts (nat_le 64 limits.props) (nat_le limits.props (most_props v)) props.0).1 (omega arith) in
-    let blocks = most_of v 32768 16777216 limits.blocks (and_parts (nat_le 1 limits.blocks) (nat_le limits.blocks (most_blocks v)) two.1).1 (omega arith) in
-    record { files = omega (arith, files); props = omega (arith, props); blocks = omega (arith, blocks) }
+    let most = within_most limits h in
+    record { files = omega (arith, most.files); props = omega (arith, most.props); blocks = omega (arith, most.blocks) }
 
 abbrev limits_of : ℕ → ℕ → ℕ → ℕ → Limits
 limits_of version files props blocks = record { files = files; props = props; blocks = blocks; version = version }
