@@ -315,7 +315,7 @@ module _ (limits : Limits) (words : Words) (axioms : Axioms) (files : Files) (ma
         let given = given_word limits words axioms files read.files_are f.slot found.0 f.rec (filed_rec files.catalog held_sound.catalog f m) (among_from_number f.rec.tags found.0 found.2) in
         subst (λ v. is_assignable (declared_words words) v ≡ true) (same_Some given.0 w (sym given.1 ∙ found.1)) given.2));
     few_assigned = each_file (λ (file : File). nat_le (length file.assigned) 16) (λ f m.
-        le-leb (length (words_told words.dict f.rec.tags)) 16 (let few = few_tags f.rec.tags (entry_record f m).tags in omega (arith, few, told_few words.dict f.rec.tags)));
+        le-leb (length (words_told words.dict f.rec.tags)) 16 (let few = few_tags limits.version f.rec.tags (entry_record f m).tags in omega (arith, few, told_few words.dict f.rec.tags)));
     few_words = each_file (λ (file : File). nat_le (length (description s file)) 128) (λ f m.
         le-leb (length (description s (file_told limits words.dict at f))) 128
         (let is = ap (λ ws. length ws) (is_described f (contains_from_among files.catalog.entries f m)) in

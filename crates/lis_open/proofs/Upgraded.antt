@@ -5,10 +5,16 @@ use Rattle.lis_open.proofs.Common.{◌≡◌, sym, ap, ◌∙◌, subst, ℕ, �
 use Rattle.lis_store.specs.Stands.{Stands}
 use Rattle.std.proofs.lemmas.Bool.{cond-false}
 use Rattle.lis_content.proofs.Indexes.{small_size}
-use Rattle.lis_fields.proofs.Parts.{file_upgraded}
-use Rattle.lis_fields.proofs.Supers.{upgraded_in_range, super_torn, super_upgraded}
+use Rattle.lis_fields.proofs.Parts.{file_upgraded, file_respelled}
+use Rattle.lis_fields.proofs.Supers.{with_version, upgraded_in_range, upgraded_stored, super_torn, super_upgraded}
+use Rattle.lis_fields.specs.Layouts.{file_bytes, is_record}
+use Rattle.lis_fields.specs.declared.slots.FileSlot.{FileSlot}
+use Rattle.lis_fields.specs.declared.slots.FileSlot.TheVariants.{Used}
+use Rattle.lis_kept.proofs.InArea.{first_limit}
+use Rattle.lis_kept.proofs.Formed.{record_parts}
+use Rattle.lis_kept.specs.Metadata.{record_at}
 use Rattle.lis_laws.proofs.Counts.{all_weaker}
-use Rattle.lis_model.specs.State.{file_limit, blocks_taken}
+use Rattle.lis_model.specs.State.{blocks_needed, blocks_taken}
 use Rattle.lis_kept.specs.Areas.Area.{Properties, Axioms, Files, Rows, Bitmap}
 use Rattle.lis_kept.specs.Sound.{is_sound_record, IsSoundAxiom}
 use Rattle.lis_kept.proofs.Filing.{map_all}
@@ -51,32 +57,41 @@ are_short most files = IsTrue (list_all (λ (file : File). nat_le (length file.b
 
 used_alike : (files : List File) → are_short 65536 files
     → sum (map (λ (file : File). blocks_taken 2 (length file.bytes)) files) ≡ sum (map (λ (file : File). blocks_taken 1 (length file.bytes)) files)
-used_alike files short = search (rules, map_all, cond-false, small_size, leb-true, all_among)
+used_alike files short = search (rules, map_all, alike, leb-true, all_among)
+  where
+    -- no block numbers others
+    alike : (size : ℕ) → size ≤ 65536 → blocks_taken 2 size ≡ blocks_taken 1 size
+    alike size few =
+        let n = blocks_needed size in ap (λ b. n + cond b 0 ((n + 1023) / 1024)) (le-leb n 16 (omega (arith, few)))
 
 longer : (files : List File) → are_short 65536 files → are_short 1048576 files
 longer files short = search (rules, all_weaker, leb-true, le-leb)
 
 pub formed_upgraded : (s : State) → s.limits.version ≡ 1 → WellFormed s → WellFormed (state_in 2 s)
 formed_upgraded s one formed =
-    let short : are_short 65536 s.files = subst (λ version. are_short (file_limit version) s.files) one formed.files.short in
+    let short : are_short 65536 s.files = subst (λ most. are_short most s.files) (first_limit s.limits one) formed.files.short in
     let few : sum (map (λ (file : File). blocks_taken 2 (length file.bytes)) s.files) ≤ s.limits.blocks =
     subst (λ n. n ≤ s.limits.blocks) (sym (used_alike s.files short))
     (subst (λ version. sum (map (λ (file : File). blocks_taken version (length file.bytes)) s.files) ≤ s.limits.blocks) one formed.few_blocks) in
-    assumption (upgraded_in_range s.limits formed.limits, longer s.files short, few)
+    assumption (upgraded_in_range s.limits one formed.limits, longer s.files short, few)
 
 -- ---- what memory keeps
-record_upgraded : (dict : Dict) (blocks : ℕ) (rec : FileRecord) → IsTrue (is_sound_record 1 dict blocks rec) → IsTrue (is_sound_record 2 dict blocks rec)
-record_upgraded dict blocks rec sound = search (rules, and_parts, and_from, file_upgraded)
+record_upgraded : (limits : Limits) (dict : Dict) (blocks : ℕ) (rec : FileRecord) → limits.version ≡ 1 → IsTrue (is_sound_record limits dict blocks rec)
+    → IsTrue (is_sound_record (with_version 2 limits) dict blocks rec)
+record_upgraded limits dict blocks rec one sound =
+    let later = with_version 2 limits in
+    let parts = record_parts limits dict blocks rec sound in
+    and_from (is_record later rec && list_all (λ n. is_some (word_of dict n)) rec.tags) (list_all (λ n. nat_lt n blocks) rec.blocks)
+    (and_from (is_record later rec) (list_all (λ n. is_some (word_of dict n)) rec.tags) (file_upgraded limits (Used rec) one parts.0) parts.1) parts.2
 
 pub sound_upgraded : (k : Metadata) → k.limits.version ≡ 1 → AreSound k → AreSound (metadata_in 2 k)
-sound_upgraded k one sound = assumption (upgraded_in_range k.limits sound.range, axioms, records)
+sound_upgraded k one sound = assumption (upgraded_stored k.limits sound.range, axioms, records)
   where
     axioms : (slot left right : ℕ) → slice_get k.axioms slot ≡ Some (Pair left right) → IsSoundAxiom (metadata_in 2 k) slot left right
     axioms slot left right is = assumption (sound.axioms slot left right is)
 
-    records : (slot : ℕ) (rec : FileRecord) → rec_at k.catalog slot ≡ Some rec → IsTrue (is_sound_record 2 k.dict k.limits.blocks rec)
-    records slot rec is =
-        record_upgraded k.dict k.limits.blocks rec (subst (λ version. IsTrue (is_sound_record version k.dict k.limits.blocks rec)) one (sound.records slot rec is))
+    records : (slot : ℕ) (rec : FileRecord) → rec_at k.catalog slot ≡ Some rec → IsTrue (is_sound_record (with_version 2 k.limits) k.dict k.limits.blocks rec)
+    records slot rec is = record_upgraded k.limits k.dict k.limits.blocks rec one (sound.records slot rec is)
 
 -- ---- what memory represents and has written, if all home blocks are the same and the super block has the version
 module _ (version : ℕ) (k : Metadata) (at there : ℕ → List ℕ) (sound : AreSound k) (same : (n : ℕ) → properties_start ≤ n → there n ≡ at n) where
@@ -105,10 +120,11 @@ module _ (version : ℕ) (k : Metadata) (at there : ℕ → List ℕ) (sound : A
     one_use = λ f g mf mg n has_f has_g. tells.one_use f g mf mg n (was f mf n has_f) (was g mg n has_g);
   }
 
-  pub written_in : IsWritten k at → IsWritten (metadata_in version k) there
-  written_in written =
+  -- if each file slot is spelled alike in the version
+  pub written_in : ((slot : FileSlot) → file_bytes k.limits.version slot ≡ file_bytes version slot) → IsWritten k at → IsWritten (metadata_in version k) there
+  written_in alike written =
       let all = written_there k at there sound.range (λ n low lt. same n low) written in
-      elim [ Properties ↦ all Properties | Axioms ↦ all Axioms | Files ↦ all Files | Rows ↦ all Rows | Bitmap ↦ all Bitmap ]
+      elim [ Properties ↦ all Properties | Axioms ↦ all Axioms | Files ↦ λ n lt. all Files n lt ∙ alike (record_at k.catalog n) | Rows ↦ all Rows | Bitmap ↦ all Bitmap ]
 
 -- ---- the gate of an image's version is written: each image meanwhile represents the state as before or in version 2, and the last one the
 -- state in version 2
@@ -158,21 +174,21 @@ module _ (k : Stored) (m : Meaning) (s : State) (sound : IsSound k) (fits : Stor
     behind = drop-take 25 4071 image ∙ (ap (take 4071) torn.after ∙ sym (drop-take 25 4071 m.bytes))
 
     -- it represents the state in the version of its super block
-    stands_in : (version : ℕ) → SpellsSuper (record s.limits { version = version }) (block 0 image) → AreSound (metadata_in version k.metadata) → WellFormed (state_in version s) → Stands image (state_in version s)
-    stands_in version super sound_then formed =
+    stands_in : (version : ℕ) → ((slot : FileSlot) → file_bytes 1 slot ≡ file_bytes version slot) → SpellsSuper (record s.limits { version = version }) (block 0 image) → AreSound (metadata_in version k.metadata) → WellFormed (state_in version s) → Stands image (state_in version s)
+    stands_in version alike super sound_then formed =
         change_stands (record k { metadata = metadata_in version k.metadata }) k.journal.layout (λ n. block n image) (state_in version s) sound_then sound.free sound.pairs
         (tells_in version k.metadata fits.kept (λ n. block n image) sound.metadata same s super formed fits.tells)
-        (written_in version k.metadata fits.kept (λ n. block n image) sound.metadata same fits.written)
+        (written_in version k.metadata fits.kept (λ n. block n image) sound.metadata same (λ slot. ap (λ v. file_bytes v slot) kept_one ∙ alike slot) fits.written)
         (same_layout sound.image) image (shut_stands k.journal.layout image (shut_torn 24 1 m.bytes image (omega arith) torn shut) long)
 
     stands_before : SpellsSuper s.limits (block 0 image) → Stands image s
     stands_before super =
         subst (Stands image) (state_own s one)
-        (stands_in 1 (subst (λ version. SpellsSuper (record s.limits { version = version }) (block 0 image)) one super) (subst AreSound (ap (λ version. metadata_in version k.metadata) kept_one) sound.metadata)
+        (stands_in 1 (λ slot. refl) (subst (λ version. SpellsSuper (record s.limits { version = version }) (block 0 image)) one super) (subst AreSound (ap (λ version. metadata_in version k.metadata) kept_one) sound.metadata)
         (subst WellFormed (sym (state_own s one)) fits.tells.formed))
 
     pub stands_upgraded : SpellsSuper (record s.limits { version = 2 }) (block 0 image) → Stands image (upgraded s)
-    stands_upgraded super = stands_in 2 super (sound_upgraded k.metadata kept_one sound.metadata) (formed_upgraded s one fits.tells.formed)
+    stands_upgraded super = stands_in 2 file_respelled super (sound_upgraded k.metadata kept_one sound.metadata) (formed_upgraded s one fits.tells.formed)
 
     pub torn_stands : Stands image s ⊎ Stands image (upgraded s)
     torn_stands =
@@ -182,7 +198,7 @@ module _ (k : Stored) (m : Meaning) (s : State) (sound : IsSound k) (fits : Stor
     -- if the byte is a 2
     pub written_stands : part 24 1 image ≡ 2 ∷ [] → Stands image (upgraded s)
     written_stands gate_is =
-        stands_upgraded (subst (λ bytes. SpellsSuper (record s.limits { version = 2 }) bytes) (sym new) (super_upgraded s.limits (block 0 m.bytes) super_before))
+        stands_upgraded (subst (λ bytes. SpellsSuper (record s.limits { version = 2 }) bytes) (sym new) (super_upgraded s.limits (block 0 m.bytes) one super_before))
       where
         new : block 0 image ≡ take 24 (block 0 m.bytes) ++ (2 ∷ drop 25 (block 0 m.bytes))
         new =

@@ -29,7 +29,7 @@ module _ (k : Stored) (sound : IsSound k) (slot : ℕ) (rec : FileRecord) (is_re
 
   pub given_few : length given ≤ 16
   given_few =
-      let few = few_tags rec.tags (record_in_form p.limits p.dict p.limits.blocks rec (sound.metadata.records slot rec is_rec)).tags in
+      let few = few_tags p.limits.version rec.tags (record_in_form p.limits p.dict p.limits.blocks rec (sound.metadata.records slot rec is_rec)).tags in
       omega (arith, few, told_few p.dict rec.tags)
 
   -- These words are assignable, since memory represents a state.
