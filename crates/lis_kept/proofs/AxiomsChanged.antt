@@ -237,7 +237,10 @@ module _ (k p : Metadata) (t u : Taxonomy) (left right slot : ℕ) (axioms : Lis
 
   -- memory was what it is now with the axiom
   into_before : IsFilled axioms p.axioms slot left right
-  into_before = search (rules, set_here, set_back)
+  into_before = record {
+    free = ap (λ (xs : List AxiomSlot). slice_get xs slot) emptied ∙ set_here p.axioms slot (Pair left right) FreeAxiom there;
+    filled = sym (ap (λ (xs : List AxiomSlot). set xs slot (Pair left right)) emptied ∙ set_back p.axioms slot (Pair left right) FreeAxiom there);
+  }
 
   -- no other slot has it
   pair_gone : has_pair axioms left right ≡ false

@@ -1,6 +1,6 @@
 -- Blocks that are taken for a content, or freed.
 use Rattle.std.proofs.Common.{MatchResult, arith, nat_le, min}
-use Rattle.lis_kept.proofs.Common.{rules, ◌≡◌, refl, sym, ap, ◌∙◌, subst, ℕ, zero, suc, ◌<◌, ◌≤◌, nat_lt, not, Bool, true, false, List, [], ◌∷◌, length, drop, set, Result, Ok, Err, length-set, list_all, and_parts, ltb-true, lt-ltb, Held, are_distinct, slot_count, FileRecord, Taxonomy, bitmap_start, data_start, all_among, and_from, all_from, ◌==◌, ◌&&◌, ◌||◌, ◌/◌, ◌*◌, Limits, cond}
+use Rattle.lis_kept.proofs.Common.{rules, ◌≡◌, refl, sym, ap, ◌∙◌, subst, ℕ, zero, suc, ◌<◌, ◌≤◌, nat_lt, not, Bool, true, false, List, [], ◌∷◌, length, drop, set, Result, Ok, Err, length-set, list_all, and_parts, ltb-true, lt-ltb, Held, are_distinct, slot_count, FileRecord, Taxonomy, bitmap_start, data_start, all_among, and_from, all_from, ◌==◌, ◌&&◌, ◌||◌, ◌/◌, ◌*◌, Limits, cond, ◌+◌}
 use Rattle.std.proofs.lemmas.Bool.{cond-true, cond-false, eq-eqb, ltb-false, leb-false, and_from}
 use Rattle.lis_ports.specs.Meaning.{Meaning}
 use Rattle.lis_ports.specs.Runs.{Leaves}
@@ -16,10 +16,10 @@ use Rattle.lis_content.specs.Putting.{IsPut, IsRefused}
 use Rattle.lis_content.specs.declared.fault.PutFault.{PutFault}
 use Rattle.lis_content.specs.declared.fault.PutFault.TheVariants.{NoSpace, Disk}
 use Rattle.lis_content.proofs.Numbers.{are_below, below_from_free, within_if_below}
-use Rattle.lis_content.proofs.Indexes.{small_blocks, small_content, small_size}
+use Rattle.lis_content.proofs.Indexes.{small_blocks, small_content}
 use Rattle.lis_content.proofs.Files.{slot_were_free}
 use Rattle.lis_content.proofs.Laying.{among_homes}
-use Rattle.lis_fields.specs.Layouts.{are_blocks, number_width}
+use Rattle.lis_fields.specs.Layouts.{are_blocks, number_width, slot_blocks}
 use Rattle.lis_model.specs.Image.{image_blocks}
 use Rattle.lis_model.specs.State.{file_limit, blocks_needed, blocks_taken}
 use Rattle.lis_kept.specs.Metadata.{Metadata}
@@ -238,7 +238,7 @@ module _ {T : Type 0} (items : T → List ℕ) (k p : Metadata) (t : Taxonomy) (
 
   module _ (m : Meaning) (small : is_large (length bytes) ≡ false) where
     content_enough : blocks_needed (length bytes) ≤ free_count p.taken
-    content_enough = subst (λ n. n ≤ free_count p.taken) (cond-false (is_large (length bytes)) _ (blocks_needed (length bytes)) small) needed_enough
+    content_enough = omega (arith, needed_enough)
 
     pub staged_ends : (put : Result T PutFault)
         → MatchResult put (λ s. IsPut (data_start p.limits) [] bytes p.taken taken old new (items s)) (λ fault. IsRefused [] bytes p.taken taken old new fault)

@@ -1,5 +1,5 @@
 -- The bytes and the blocks of a file, and what stays when other blocks change.
-use Rattle.lis_kept.proofs.Common.{rules, ◌≡◌, ℕ, ◌+◌, ◌≤◌, true, List, length, eqb-true, Among, among_from_any, among_right, slot_count, Dict, FileRecord, slot_blocks, Limits, data_start, IsTrue, ◌⊎◌, ◌<◌, ◌*◌, ◌/◌, ◌==◌, Bool, false, cond, refl, sym, subst, ◌∙◌, inl, inr, are_stored}
+use Rattle.lis_kept.proofs.Common.{rules, ◌≡◌, ℕ, ◌+◌, ◌≤◌, true, List, length, eqb-true, Among, among_from_any, among_right, slot_count, Dict, FileRecord, slot_blocks, Limits, data_start, IsTrue, ◌⊎◌, ◌*◌, ◌/◌, ◌==◌, Bool, false, cond, refl, sym, subst, ◌∙◌, inl, inr, are_stored}
 use Rattle.std.proofs.lemmas.Bool.{cond-false, leb-true, leb-false, ltb-true, ltb-false}
 use Rattle.lis_content.proofs.Indexes.{large_blocks, small_blocks, small_size}
 use Rattle.lis_content.proofs.Files.{AreSame, same_file as same_in_content}

@@ -1,6 +1,6 @@
 -- A file slot that gets other numbers.
 use Rattle.std.proofs.Common.{arith}
-use Rattle.lis_kept.proofs.Common.{common_steps, rules, ◌≡◌, ◌⊎◌, ℕ, ◌+◌, ◌<◌, ◌≤◌, ◌||◌, nat_lt, Bool, true, false, List, [], length, get_or, set, map, is_some, IsSome, refl, sym, ap, ◌∙◌, subst, inl, inr, length-set, get_or-set_same, get_or-set_other, list_all, cases_eq, lt-ltb, eqb-true, and_parts, or_cases, among_from_any, among_from_contains, length-marked, word_of, rec_at, Ext, has, Taxonomy, all_among, among_where, both_ways, false_from_ne_true, marked, all_from}
+use Rattle.lis_kept.proofs.Common.{rules, ◌≡◌, ◌⊎◌, ℕ, ◌+◌, ◌<◌, ◌≤◌, ◌||◌, nat_lt, Bool, true, false, List, [], length, get_or, set, map, is_some, IsSome, refl, sym, ap, ◌∙◌, subst, inl, inr, length-set, get_or-set_same, get_or-set_other, list_all, cases_eq, lt-ltb, eqb-true, and_parts, or_cases, among_from_any, among_from_contains, length-marked, word_of, rec_at, Ext, has, Taxonomy, all_among, among_where, both_ways, false_from_ne_true, marked, all_from, Contains-get_or, Among}
 use Rattle.std.specs.List.{All}
 use Rattle.lis_ext.proofs.Counted.{where_le}
 use Rattle.lis_ext.specs.Ext.{set_of, with_marks}
@@ -93,7 +93,11 @@ module _ (p : Metadata) (t : Taxonomy) (held : AreHeld p t) (slot : ℕ) (old ne
 
 -- numbers of words are below the limit
 pub numbers_below : (k p : Metadata) (ns : List ℕ) → p ≡ k → AreSound p → list_all (λ n. is_some (word_of k.dict n)) ns ≡ true → All (λ n. n < p.ext.props) ns
-numbers_below k p ns is sound named i d lt = grind (arith, common_steps, among_from_contains, named_below, all_among)
+numbers_below k p ns is sound named i d lt =
+    let n = get_or ns i d in
+    let there : Among ns n = among_from_contains ns n (Contains-get_or ns i d lt) in
+    let below = named_below p sound n (ap (λ (x : Metadata). is_some (word_of x.dict n)) is ∙ all_among (λ m. is_some (word_of k.dict m)) ns n named there) in
+    omega (arith, below, sound.rows)
 
 -- the same, over what memory kept
 pub describes : (k p : Metadata) (t : Taxonomy) (slot : ℕ) (old new : List ℕ) (e : Ext) (marks : List Bool) → p ≡ k → AreHeld p t → AreWithin p.ext

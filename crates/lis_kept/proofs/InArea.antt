@@ -1,8 +1,7 @@
 -- In which blocks an area is, and its slots in a block.
 use Rattle.std.proofs.Common.{arith, ap, cond, min}
-use Rattle.lis_kept.proofs.Common.{rules, ◌≡◌, ℕ, ◌+◌, ◌*◌, ◌-◌, ◌/◌, ◌%◌, ◌<◌, ◌≤◌, ◌==◌, ◌||◌, Bool, true, List, IsTrue, sym, subst, inl, inr, and_parts, or_cases, eqb-true, Limits, are_stored, bitmap_start, data_start, ◌⊎◌}
+use Rattle.lis_kept.proofs.Common.{rules, ◌≡◌, ℕ, ◌+◌, ◌*◌, ◌-◌, ◌/◌, ◌%◌, ◌<◌, ◌≤◌, ◌==◌, true, List, IsTrue, inl, inr, Limits, are_stored, bitmap_start, data_start, ◌⊎◌}
 use Rattle.std.proofs.Math.Nat.{div-lt_iff_lt-mul, div-add-mod}
-use Rattle.std.proofs.lemmas.Bool.Decides.{nat_tests}
 use Rattle.lis_model.specs.Ranges.{is_files_limit, is_props_limit}
 use Rattle.lis_fields.specs.Layouts.{number_width}
 use Rattle.lis_model.specs.Image.{axioms_start, files_start, rows_start}
@@ -61,6 +60,18 @@ row_within : (limits : Limits) (m : ℕ) → IsTrue (are_stored limits) → m < 
 row_within limits m range lt =
     (div-lt_iff_lt-mul {k = 4096 / (limits.files / 8)} {x = m} {y = (limits.props * limits.files + 32767) / 32768} (some_rows limits range)).1
     (omega (arith, lt))
+
+-- their numbers stay small
+pub rows_few : (limits : Limits) (n : ℕ) → IsTrue (are_stored limits) → n < (limits.props * limits.files + 32767) / 32768
+    → 4096 / (limits.files / 8) * n + 4096 / (limits.files / 8) ≤ 2000000
+rows_few limits n range =
+    each_files_limit (λ files. n < (limits.props * files + 32767) / 32768 → 4096 / (files / 8) * n + 4096 / (files / 8) ≤ 2000000)
+    limits.files (files_range limits range)
+    (λ lt. omega (arith, lt, few)) (λ lt. omega (arith, lt, few)) (λ lt. omega (arith, lt, few)) (λ lt. omega (arith, lt, few))
+    (λ lt. omega (arith, lt, few)) (λ lt. omega (arith, lt, few)) (λ lt. omega (arith, lt, few))
+  where
+    few : limits.props ≤ 8192
+    few = few_properties limits range
 
 -- ---- areas
 -- the block after an area

@@ -256,7 +256,17 @@ module _ (p mid now : Metadata) (sound : AreSound p) (after : AreSound now) (wor
 
     -- ---- a slot is free
     enough : count_by is_filled now.axioms < now.limits.props
-    enough = search (rules, each_count, each_metadata, length-take-le)
+    enough =
+        omega (
+          arith,
+          lt,
+          may.room,
+          each_count number before mid now each,
+          length-take-le i rights (omega (arith, lt)),
+          ap (λ (k : Metadata). count_by is_filled k.axioms) declares.metadata,
+          ap (λ (k : Metadata). k.limits.props) (each_metadata number before mid now each),
+          ap (λ (k : Metadata). k.limits.props) declares.metadata,
+        )
 
     many : now.limits.props ≤ length now.axioms
     many = search (rules)

@@ -121,6 +121,7 @@ impl Metadata {
     }
 
     // Writes a block of slots or rows.
+    #[tactic(auto, using(crate::proofs::InArea::few_properties, crate::proofs::InArea::few_files))]
     fn write_block(&self, n: u32, block: &mut [u8])
         requires from { properties_start ≤ n }
         requires to { n < bitmap_start self.now.limits }

@@ -16,7 +16,11 @@ edges_from-requires c =
     omega (arith, below, sound.numbers, ap (λ (k : Metadata). k.limits.props) c.self.view_is, c.taxonomy.ensures.props)
 
 pub returns-in_err-number : goal.returns-in_err-number
-returns-in_err-number c = grind (arith, no_rights _ c.self.invariant.sound c.args.left.now (sym c.id_of.ensures ∙ c.in_err-number.was))
+returns-in_err-number c =
+    let k = the_view c.self.inside in
+    let first = find (is_behind (option_map (λ w. w.now) c.args.last)) in
+    let none = no_rights k c.self.invariant.sound c.args.left.now (sym c.id_of.ensures ∙ c.in_err-number.was) in
+    c.from_residual.ensures ∙ ap first (sym none) ∙ ap (λ (k : Metadata). first (rights_of (axioms_of k) c.args.left.now)) c.self.view_is
 
 pub returns : goal.returns
 returns c =

@@ -1,6 +1,5 @@
 use Rattle.std.proofs.Common.{arith}
 use Rattle.lis_kept.proofs.Common.{◌∙◌, ◌≤◌, ap, sym, subst, ◌≡◌, length, same_Some, rec_at, slot_count, FileRecord}
-use Rattle.lis_fields.proofs.Parts.{size_fits}
 use Rattle.lis_model.specs.Image.{image_blocks}
 use Rattle.lis_kept.specs.Metadata.{Metadata}
 use Rattle.lis_kept.proofs.Dropped.{record_in_form}
@@ -8,6 +7,7 @@ use Rattle.lis_kept.proofs.BlocksTaken.{takes, slot_within, gives}
 use Rattle.lis_kept.proofs.Image.{same_homes, same_blocks}
 use Rattle.lis_kept.proofs.Contents.{slot_counted}
 use Rattle.lis_kept.specs.contracts.metadata.Metadata.{the_view}
+use Rattle.lis_model.proofs.Stored.{stored_limit_le}
 use Rattle.lis_kept.proofs.metadata.Metadata.give_blocks.Goals as goal
 
 pub drop_large-requires-clause-home : goal.drop_large-requires-clause-home
@@ -25,7 +25,7 @@ drop_large-requires-clause-few g c =
     let k = the_view c.self.inside in
     let sound = c.self.invariant.sound.records c.args.slot c.in-Some.rec.now c.in-Some.ensures in
     let form = record_in_form k.limits k.dict k.limits.blocks c.in-Some.rec.now sound in
-    subst (λ n. n ≤ 1048576) (sym (ap (λ (r : FileRecord). r.size) c.rec-2.view_is)) (size_fits k.limits c.in-Some.rec.now.size form.small)
+    subst (λ n. n ≤ 1048576) (sym (ap (λ (r : FileRecord). r.size) c.rec-2.view_is)) (omega (arith, form.small, stored_limit_le k.limits c.self.invariant.sound.range))
 
 pub returns-clause-gives : goal.returns-clause-gives
 returns-clause-gives g c = λ rec is.

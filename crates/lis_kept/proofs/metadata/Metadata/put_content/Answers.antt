@@ -3,6 +3,10 @@ use Rattle.arrayvec.specs.ArrayVec.{ArrayVec}
 use Rattle.lis_kept.proofs.BlocksTaken.{MayPut, PutEnds, placed_ends, staged_ends, ended_ok, ended_err}
 use Rattle.lis_kept.specs.contracts.metadata.Metadata.{the_view}
 use Rattle.lis_kept.proofs.metadata.Metadata.put_content.Goals.{then-is_large, else-is_large, in-Ok, in-Err-Disk}
+use Rattle.std.proofs.Common.{arith, ap}
+use Rattle.lis_model.proofs.Stored.{stored_limit_le}
+use Rattle.lis_model.specs.State.{file_limit}
+use Rattle.lis_kept.specs.Metadata.{Metadata}
 use Rattle.lis_kept.proofs.metadata.Metadata.put_content.Goals as goal
 
 abbrev items : ArrayVec ℕ → List ℕ
@@ -45,3 +49,7 @@ returns-clause-ended g c =
 
 pub returns-clause-sound : goal.returns-clause-sound
 returns-clause-sound g c = (ends g c).held.sound
+
+pub is_large-requires : goal.is_large-requires
+is_large-requires g c =
+    omega (arith, c.requires.short, stored_limit_le (the_view c.self.inside).limits c.self.invariant.sound.range, ap (λ (k : Metadata). file_limit k.limits) c.self.view_is)

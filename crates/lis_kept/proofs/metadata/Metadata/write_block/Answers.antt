@@ -1,9 +1,11 @@
-use Rattle.std.proofs.Common.{arith}
-use Rattle.lis_kept.proofs.Common.{common_steps, ◌≡◌, ◌<◌, ℕ, true, List, sym, subst, bitmap_start, AxiomSlot}
+use Rattle.std.proofs.Common.{arith, ◌*◌, ◌+◌, ◌-◌, ◌/◌, ◌≤◌}
+use Rattle.lis_kept.proofs.Common.{◌≡◌, ◌<◌, ℕ, true, List, sym, subst, bitmap_start, AxiomSlot}
 use Rattle.lis_fields.specs.Layouts.{is_axiom}
 use Rattle.lis_kept.specs.Metadata.{Metadata, axiom_at}
 use Rattle.lis_kept.specs.Inside.{IsBlock}
 use Rattle.lis_kept.specs.contracts.metadata.Metadata.{the_view}
+use Rattle.lis_model.specs.Image.{rows_start}
+use Rattle.lis_kept.proofs.InArea.{rows_few}
 use Rattle.lis_kept.proofs.Formed.{axioms_formed, records_formed}
 use Rattle.lis_kept.proofs.Spelled.{properties_block, axioms_block, files_block, rows_block}
 use Rattle.lis_kept.proofs.metadata.Metadata.write_block.Goals as goal
@@ -36,8 +38,23 @@ returns-then-n-rows c =
     (files_block (the_view c.self.inside) c.self.invariant.sound.range c.args.n c.write_files.new.block _ c.files_start-files.ensures
     (omega (arith, c.if-n-files.false, c.files_start-files.ensures)) (omega (arith, c.if-n-rows.true, c.rows_start-rows.ensures)) c.write_files.ensures)
 
+-- the row of the block's first slot
+row_within : (k now : Metadata) (n rows : ℕ) → k ≡ now → rows ≡ rows_start k.limits → rows ≤ n → n < bitmap_start now.limits → n - rows < (k.limits.props * k.limits.files + 32767) / 32768
+row_within k now n rows is from low to =
+    let below : n < bitmap_start k.limits = subst (λ (m : Metadata). n < bitmap_start m.limits) (sym is) to in
+    omega (arith, below, from, low)
+
 pub overflow_mul-count : goal.overflow_mul-count
-overflow_mul-count c = grind (arith, common_steps) steps 2000000
+overflow_mul-count c =
+    let k = the_view c.self.inside in
+    let within = row_within k c.args.self.now c.args.n c.rows_start-rows.result c.self.view_is c.rows_start-rows.ensures c.if-n-rows.false c.requires.to in
+    omega (arith, rows_few k.limits (c.args.n - c.rows_start-rows.result) c.self.invariant.sound.range within)
+
+pub write_rows-requires-clause-few : goal.write_rows-requires-clause-few
+write_rows-requires-clause-few c =
+    let k = the_view c.self.inside in
+    let within = row_within k c.args.self.now c.args.n c.rows_start-rows.result c.self.view_is c.rows_start-rows.ensures c.if-n-rows.false c.requires.to in
+    rows_few k.limits (c.args.n - c.rows_start-rows.result) c.self.invariant.sound.range within
 
 pub returns : goal.returns
 returns c =
