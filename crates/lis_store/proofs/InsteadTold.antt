@@ -17,6 +17,7 @@ use Rattle.lis_store.proofs.FreeBlocks.{version_told}
 use Rattle.lis_store.proofs.InsteadMay.{given_assignable}
 use Rattle.lis_store.proofs.InsteadKnown.{rest_known}
 use Rattle.lis_store.proofs.Admitted.{limits_are, free_are, words_row}
+use Rattle.lis_kept.proofs.InArea.{first_limit}
 use Rattle.lis_store.proofs.Judged.{same_behind, judged_refused, judged_done}
 
 -- ---- a file instead of another

@@ -15,6 +15,7 @@ use Rattle.lis_store.specs.Adding.{is_one_of, numbers_named, AreNumbered, behind
 use Rattle.lis_store.specs.ReplacingIn.{MayComeIn, record_of}
 use Rattle.lis_store.proofs.Learning.{number_there, learns_more, number_learnt, room_left}
 use Rattle.lis_store.proofs.Naming.{one_of, named_one, named_few}
+use Rattle.lis_kept.proofs.InArea.{two_bytes}
 use Rattle.lis_store.proofs.Told.{words_grow}
 
 -- ---- words that may get numbers
