@@ -1,6 +1,6 @@
 -- A blank image has no words and no files: it represents the empty state.
 use Rattle.std.proofs.Common.{rules}
-use Rattle.lis_store.proofs.Common.{◌≡◌, refl, sym, ap, ◌∙◌, ℕ, zero, suc, ◌+◌, ◌-◌, ◌/◌, ◌<◌, ◌≤◌, ◌≢◌, false, List, [], get_or, take, replicate, slice_get, slice_index, Some, IsTrue, arith, ◌==◌, insert_key, Contains, length-replicate, get_or-replicate, slice_get_within, get_or_from_slice_get, among_from_contains, part, block, is_taken, Dict, IsDict, has, SpellsSuper, AxiomSlot, FreeAxiom, Pair, Limits, are_stored, bitmap_start, data_start, State, pair_cmp, Metadata, IsWritten, axiom_slots, Properties, Axioms, Bitmap, AreSound, Tells, among_slots, list_any, Meaning, both_ways, Files, Rows}
+use Rattle.lis_store.proofs.Common.{◌≡◌, refl, sym, ap, ◌∙◌, ℕ, zero, suc, ◌+◌, ◌-◌, ◌/◌, ◌<◌, ◌≤◌, ◌≢◌, false, List, [], get_or, take, replicate, slice_get, slice_index, Some, IsTrue, arith, ◌==◌, insert_key, Contains, length-replicate, get_or-replicate, slice_get_within, get_or_from_slice_get, among_from_contains, part, block, is_taken, Dict, IsDict, has, SpellsSuper, AxiomSlot, FreeAxiom, Pair, Limits, are_stored, bitmap_start, data_start, State, pair_cmp, Metadata, IsWritten, axiom_slots, Properties, Axioms, Bitmap, AreSound, Tells, among_slots, list_any, Meaning, both_ways, Files, Rows, true, KeepsInUse, is_linked}
 use Rattle.std.specs.List.{fold}
 use Rattle.std.proofs.lemmas.List.{drop-replicate, take-replicate, take-take}
 use Rattle.lis_slots.specs.Slots.{Slots, home, place, slot}
@@ -77,7 +77,15 @@ module _ (limits : Limits) (blocks : ℕ) where
       }
 
   pub empty_sound : IsTrue (are_stored limits) → data_start limits ≤ blocks → IsSound (empty_stored limits blocks)
-  empty_sound range room = search (rules, empty_are_sound, no_set, no_axiom, both_ways, empty_set, length-replicate)
+  empty_sound range room =
+      let closed : (slot p q : ℕ) → has metadata.ext p slot ≡ true → is_linked metadata p q ≡ true → has metadata.ext q slot ≡ true =
+      λ slot p q had. absurd (both_ways (has metadata.ext p slot) (no_set p slot) had) in
+      let in_use : KeepsInUse metadata = record {
+        used = λ n is. absurd cc;
+        tags = λ slot rec is. absurd cc;
+        rights = λ at left right is. absurd (no_axiom at left right is);
+      } in
+      search (rules, empty_are_sound, no_set, no_axiom, both_ways, empty_set, length-replicate, closed, in_use)
 
 -- ---- blocks of zeros
 pub zeros-part : (at n total : ℕ) → at + n ≤ total → part at n (zeros total) ≡ zeros n

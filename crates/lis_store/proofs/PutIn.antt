@@ -141,8 +141,8 @@ module _ (r : Metadata) (sound : AreSound r) (words : List (List ℕ)) where
       (and_from (nat_le (length (numbers_named r.dict words)) 16) (fit 2 (numbers_named r.dict words))
       (le-leb (length (numbers_named r.dict words)) 16 (omega (arith, named_few r.dict sound.dict words, few)))
       (all_from (λ n. nat_lt n (2 ^ 16)) (numbers_named r.dict words) (λ n m.
-      lt-ltb n (2 ^ 16) (omega (arith, (among_where r.dict.props (λ k. is_one_of words (word_of r.dict k)) n m).0, sound.numbers, few_properties r.limits sound.range))))))
-      (rising_from_sorted nat_cmp nat_cmp_total (numbers_named r.dict words) (sorted_where r.dict.props (λ n. is_one_of words (word_of r.dict n))))
+      lt-ltb n (2 ^ 16) (omega (arith, (among_where r.dict.props (λ k. is_one_of words (word_of r.dict k)) n m).0, sound.numbers, few_properties r.limits sound.range)))))
+      (rising_from_sorted nat_cmp nat_cmp_total (numbers_named r.dict words) (sorted_where r.dict.props (λ n. is_one_of words (word_of r.dict n)))))
 
   pub named_rising : IsStrictlyIncreasing (numbers_named r.dict words)
   named_rising = IsStrictlyIncreasing-from_sorted (numbers_named r.dict words) (sorted_where r.dict.props (λ n. is_one_of words (word_of r.dict n)))
