@@ -159,7 +159,8 @@ record_sound {p} {r} {draft} may sound learns blocks formed below =
     let rec = record_of (numbers_named r.dict draft.assigned) draft blocks in
     and_from (is_record r.limits rec && list_all (λ n. is_some (word_of r.dict n)) rec.tags) (list_all (λ n. nat_lt n r.limits.blocks) blocks)
     (and_from (is_record r.limits rec) (list_all (λ n. is_some (word_of r.dict n)) rec.tags)
-    (ap (λ (k : Metadata). is_record k.limits rec) learns.metadata ∙ record_from p.limits rec may.name may.small (named_tags r sound draft.assigned may.few) formed)
+    (ap (λ (k : Metadata). is_record k.limits rec) learns.metadata ∙ record_from p.limits rec may.name may.small
+    (subst (λ (k : Metadata). are_tags k.limits.version rec.tags ≡ true) learns.metadata (named_tags r sound draft.assigned may.few)) formed)
     (named_worded r sound draft.assigned))
     (ap (λ (k : Metadata). list_all (λ n. nat_lt n k.limits.blocks) blocks) learns.metadata ∙ below)
 
