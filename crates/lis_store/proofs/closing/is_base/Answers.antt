@@ -1,4 +1,4 @@
-use Rattle.lis_store.proofs.Common.{◌≡◌, ◌∙◌, ◌<◌, ◌||◌, ℕ, Bool, true, false, List, not, refl, sym, ap, Metadata, has_number}
+use Rattle.lis_store.proofs.Common.{◌≡◌, ◌∙◌, ◌<◌, ◌||◌, ℕ, Bool, true, false, List, not, refl, sym, ap, Metadata, has_number, arith, few_properties}
 use Rattle.lis_taxonomy.specs.Search.{is_found}
 use Rattle.lis_store.specs.declared.closing.Rebuild.{Rebuild}
 use Rattle.lis_store.specs.declared.closing.Rebuild.TheVariants.{Having, Losing, Meeting}
@@ -31,3 +31,6 @@ returns-else-not-has c =
     let own = has_number (tags_at k c.args.slot) c.args.number in
     let found = sym c.has.ensures ∙ c.if-not-has.false in
     c.is_given.ensures ∙ (sym (ap (λ b. not b || own) found) ∙ sym (base_by k c.args.how c.args.slot c.args.number c.args.lost.now c.requires.lost c.requires.number))
+
+pub has-requires : goal.has-requires
+has-requires c = omega (arith, c.requires.number, few_properties c.args.metadata.now.limits c.requires.sound.range)
