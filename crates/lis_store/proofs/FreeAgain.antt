@@ -1,5 +1,5 @@
 -- How many blocks are free after some are freed.
-use Rattle.lis_store.proofs.Common.{rules, ◌≡◌, refl, ap, ◌∙◌, subst, inl, inr, ℕ, ◌+◌, ◌≤◌, not, Bool, true, false, cond, List, [], ◌∷◌, length, filter, set, Option, Some, IsSome, arith, get_or-set_other, and_parts, cases_lt, cond-false, eqb-true, ne_eqb, not-true, or_cases, sum_by-set, Among, Meaning, Held, is_taken, free_count, is_large, small_size, rec_at, FileRecord, Limits, are_stored, file_limit, blocks_taken, Metadata, AreSound, record_in_form, both_ways, given, has_number, are_distinct, GivesBack, number_from_among}
+use Rattle.lis_store.proofs.Common.{rules, ◌≡◌, refl, ap, ◌∙◌, subst, inl, inr, ℕ, ◌+◌, ◌≤◌, not, Bool, true, false, cond, List, [], ◌∷◌, length, filter, set, Option, Some, IsSome, arith, get_or-set_other, and_parts, cases_lt, cond-false, not-true, sum_by-set, Among, Meaning, Held, is_taken, free_count, is_large, small_size, rec_at, FileRecord, blocks_taken, Metadata, AreSound, record_in_form, both_ways, given, has_number, are_distinct, GivesBack, number_from_among}
 use Rattle.std.proofs.lemmas.List.{set_past}
 use Rattle.lis_content.proofs.Numbers.{below_if_taken}
 use Rattle.lis_kept.proofs.Dropped.{blocks_apart}

@@ -1,6 +1,6 @@
 -- Calls in which a file is put into a free slot, or replaces another.
 use Rattle.std.proofs.Common.{rules}
-use Rattle.lis_store.proofs.Common.{◌≡◌, refl, sym, ap, ◌∙◌, subst, ℕ, ◌+◌, ◌≤◌, ◌==◌, ◌&&◌, not, nat_lt, is_some, true, false, Bool, IsSome, IfSome, List, [], length, Option, Some, None, Result, arith, list_all, and_parts, eqb-true, Meaning, Held, Fits, KeepsPast, looked, Filed, slot_of, rec_at, is_large, word_of, same_word, FileRecord, are_blocks, is_record, Limits, bitmap_start, data_start, State, File, blocks_taken, used_blocks, derived_words, new_file, file_added, file_removed, file_replaced, file_limit, Situation, Outcome, same_word_decides, Metadata, IsSaved, is_marked, marked_count, is_sound_record, AreSound, bytes_told, blocks_told, Tells, record_in_form, filed_at_slot, among_from_any, leaves_weaken, StandsBut, changed, file_told, size_fits}
+use Rattle.lis_store.proofs.Common.{◌≡◌, refl, sym, ap, ◌∙◌, subst, ℕ, ◌+◌, ◌≤◌, ◌==◌, ◌&&◌, not, nat_lt, is_some, true, false, Bool, IsSome, IfSome, List, [], length, Option, Some, None, Result, arith, list_all, and_parts, eqb-true, Meaning, Held, Fits, KeepsPast, looked, Filed, slot_of, rec_at, is_large, word_of, same_word, FileRecord, are_blocks, is_record, Limits, bitmap_start, data_start, State, File, blocks_taken, used_blocks, derived_words, new_file, file_added, file_removed, file_replaced, file_limit, Situation, Outcome, same_word_decides, Metadata, IsSaved, is_marked, marked_count, is_sound_record, AreSound, bytes_told, blocks_told, Tells, record_in_form, filed_at_slot, among_from_any, leaves_weaken, StandsBut, changed, file_told}
 use Rattle.lis_catalog.proofs.Laws.{slot_of-rec_at}
 use Rattle.lis_laws.proofs.Counts.{filter_sum_drops}
 use Rattle.lis_store.specs.declared.change_fault.ChangeFault.{ChangeFault}

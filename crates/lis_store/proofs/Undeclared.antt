@@ -1,5 +1,4 @@
 -- What removing a declaration gives.
-use Rattle.std.proofs.Common.{rules}
 use Rattle.std.proofs.Common.{eq-eqb}
 use Rattle.lis_store.proofs.Common.{◌≡◌, ◌⊎◌, refl, sym, ap, ap₂, ◌∙◌, subst, inl, inr, ℕ, ◌≤◌, ◌==◌, not, ◌&&◌, ◌||◌, Bool, true, false, if◌then◌else◌, List, [], ◌∷◌, length, slice_get, Option, Some, None, is_some, IsSome, Result, arith, get_or-set_other, list_any, and_parts, cases_eq, ne_eqb, not_from_false, not-true, not-false, same_Some, Among, contains_from_among, among_filter, filter_among, Meaning, looked, is_taken, number_of, word_of, word_from_number, Filed, rec_at, has, numbers_at, FileRecord, Pair, same_word, head_bytes, is_valued, is_test, has_word, Refusal, State, File, WellFormed, own_words, description, is_met, Situation, refused, rmdir, sorted_all_up, filter_le, same_word_decides, Metadata, block_of, is_marked, marked_count, is_own_link, has_pair, AreSound, FreeSlotsAreEmpty, KeepsInUse, bit_of, is_declared, declared_of, state_of, is_head_by, is_left_of, is_left_head_of, is_had, is_named_left, Tells, test_by, filed_rec, among_word, word_among, among_slot, used_had, differs, or_left, both_ways, false_from_ne_true, any_from_among, has_number, changed, same_tests, Rows, is_linked, words_told, file_told, among_from_number, number_from_among, one_number}
 use Rattle.lis_content.proofs.Numbers.{neither}

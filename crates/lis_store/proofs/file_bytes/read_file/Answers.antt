@@ -1,4 +1,4 @@
-use Rattle.lis_store.proofs.Common.{◌≡◌, ◌∙◌, length, sym, ap, arith, same_Some, on_ok_weaker, slot_count, looked, FileRecord, size_fits, data_start, record_in_form}
+use Rattle.lis_store.proofs.Common.{◌≡◌, ◌∙◌, length, sym, ap, arith, same_Some, on_ok_weaker, slot_count, looked, FileRecord, data_start, record_in_form}
 use Rattle.lis_kept.proofs.BlocksTaken.{slot_within}
 use Rattle.lis_kept.proofs.Contents.{slot_counted}
 use Rattle.lis_store.proofs.ReadBack.{read_told}

@@ -1,4 +1,4 @@
-use Rattle.lis_store.proofs.Common.{◌≡◌, ◌∙◌, ℕ, ◌+◌, ◌==◌, Some, Ok, Err, length, filter, sym, ap, subst, arith, eq-eqb, err_from_is_err_and, is_taken, free_count, rec_at, small_size, Limits, file_limit, Metadata, Held, ◌≢◌}
+use Rattle.lis_store.proofs.Common.{◌∙◌, ℕ, ◌+◌, ◌==◌, Some, Ok, Err, length, filter, sym, ap, subst, arith, err_from_is_err_and, is_taken, free_count, rec_at, small_size, Limits, file_limit, Metadata, Held, ◌≢◌}
 use Rattle.std.proofs.lemmas.Bool.{cond-false, ne_eqb}
 use Rattle.lis_kept.specs.Image.{image_shape}
 use Rattle.lis_journal.specs.Journal.{shape_of}

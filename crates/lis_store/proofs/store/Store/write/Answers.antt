@@ -1,4 +1,4 @@
-use Rattle.lis_store.proofs.Common.{◌∙◌, ◌≤◌, Err, is_some, refl, sym, ap, subst, arith, err_from_is_err_and, slot_of, Limits, new_file, file_added, file_limit, State, Situation, Outcome, Payload, write, changed, rules}
+use Rattle.lis_store.proofs.Common.{◌∙◌, ◌≤◌, Err, is_some, refl, sym, ap, subst, arith, err_from_is_err_and, slot_of, new_file, file_added, file_limit, State, Situation, Outcome, Payload, write, changed, rules}
 use Rattle.lis_store.specs.Memory.{stored}
 use Rattle.lis_store.specs.Stored.{Stored, IsSound, StoreHolds}
 use Rattle.lis_store.specs.Changes.{Holds}
