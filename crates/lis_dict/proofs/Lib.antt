@@ -4,6 +4,4 @@ pub mod Places
 mod Holders
 mod Signs
 pub mod Laws
-mod Repeats
-mod Passes
 mod Sorting

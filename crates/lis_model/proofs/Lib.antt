@@ -2,3 +2,4 @@ pub mod Runs
 pub mod Lines
 mod Examples
 pub mod NotedLemmas
+pub mod Distinct
