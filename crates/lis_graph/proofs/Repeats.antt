@@ -1,18 +1,20 @@
 -- Numbers sorted by their names: numbers of the same name are neighbours, the lowest first.
-use Rattle.std.proofs.Common.{◌≡◌, ◌⊎◌, ℕ, zero, suc, ◌+◌, ◌<◌, ◌≤◌, ◌==◌, Bool, true, false, cond, if◌then◌else◌, nat_lt, is_some, Option, Some, None, List, [], ◌∷◌, length, get_or, refl, sym, ap, subst, ◌∙◌, inl, inr, arith}
+use Rattle.std.proofs.Common.{◌≡◌, ◌⊎◌, ℕ, zero, suc, ◌+◌, ◌<◌, ◌≤◌, ◌==◌, Bool, true, false, cond, if◌then◌else◌, is_some, Option, Some, None, List, [], ◌∷◌, length, get_or, refl, sym, ap, subst, ◌∙◌, inl, inr, arith}
 use Rattle.std.specs.declared.cmp.Ordering.{Ordering}
 use Rattle.std.specs.declared.cmp.Ordering.TheVariants.{Less, Equal, Greater}
 use Rattle.std.specs.Ordering.{is_lt, nat_cmp, ordering_then, ordering_reverse}
 use Rattle.std.specs.Cmp.{IsTotalOrder, IsStrictWeakOrder, tied_itself}
 use Rattle.std.specs.List.{count_by}
 use Rattle.std.specs.List.Sorted.{IsPermutation}
-use Rattle.std.proofs.lemmas.Bool.{cases_lt, cases_eq, eq-eqb, eqb-true, ltb-false}
+use Rattle.std.proofs.lemmas.Bool.{cases_lt, eq-eqb, eqb-true}
 use Rattle.std.proofs.lemmas.Cmp.{nat_cmp_total, on_total, then_total}
 use Rattle.std.proofs.lemmas.List.{get_or_past}
 use Rattle.std.proofs.lemmas.List.MinMax.{ranks_by}
 use Rattle.std.proofs.lemmas.List.Sorted.{sorted_far, sum_by-IsPermutation, length_permutation}
 use Rattle.std.proofs.lemmas.List.Sums.{sum_by-cons}
+use Rattle.std.proofs.lemmas.Map.Keys.{ge_from_not_lt}
 use Rattle.std.proofs.lemmas.Map.Lookups.{CmpEqualImpliesEq}
+use Rattle.std.proofs.Math.Arith.{lt_of_le-ne}
 use Rattle.lis_graph.specs.Again.{IsAgain, IsFirstAgain}
 use Rattle.lis_graph.specs.Inside.{IsUnsorted, named_cmp, RisesByName, IsRepeat, IsLeastRepeat}
 
@@ -95,20 +97,6 @@ not_second Less o h e = absurd cc
 not_second Equal o h e = h
 not_second Greater o h e = absurd cc
 
-not_lower : (a b : ℕ) → is_lt (nat_cmp b a) ≡ false → a ≤ b
-not_lower a b h = by (nat_lt b a) refl h
-  where
-    by : (t : Bool) → nat_lt b a ≡ t → is_lt (cond t Less (cond (b == a) Equal Greater)) ≡ false → a ≤ b
-    by true e less = absurd cc
-    by false e less = ltb-false b a e
-
-below : (a b : ℕ) → a ≤ b → (a ≡ b → ⊥) → a < b
-below a b le differ = by (cases_eq a b)
-  where
-    by : (a ≡ b) ⊎ (a ≡ b → ⊥) → a < b
-    by (inl same) = absurd (differ same)
-    by (inr other) = omega (arith, le, other)
-
 module _ {N : Type 0} (cmp : N → N → Ordering) (total : IsTotalOrder cmp) (name : ℕ → N) where
   pub ranked : IsStrictWeakOrder (λ m n. is_lt (named_cmp cmp name m n))
   ranked = ranks_by (then_total (on_total name total) nat_cmp_total) (λ n. n)
@@ -134,7 +122,7 @@ module _ {N : Type 0} (cmp : N → N → Ordering) (total : IsTotalOrder cmp) (n
     low_first : (i j : ℕ) → i ≤ j → j < length order → named j ≡ named i → at i ≤ at j
     low_first i j le lt same =
         let tied = let self = tied_itself total (named i) in subst (λ n. cmp n (named i) ≡ Equal) (sym same) self in
-        not_lower (at i) (at j) (not_second (cmp (named j) (named i)) (nat_cmp (at j) (at i)) (far i j le lt) tied)
+        ge_from_not_lt (at j) (at i) (not_second (cmp (named j) (named i)) (nat_cmp (at j) (at i)) (far i j le lt) tied)
 
     -- and none of another name between them
     repeat_before : (i j : ℕ) → i ≤ j → j + 1 < length order → named (j + 1) ≡ named i → IsRepeat name order j
@@ -195,7 +183,7 @@ module _ {N : Type 0} (cmp : N → N → Ordering) (total : IsTotalOrder cmp) (n
             at k,
             first.0,
             second.0,
-            below (at k) (at (k + 1)) le differ,
+            lt_of_le-ne le differ,
             first.1,
             second.1,
             sym (named_so (at k) first.0 first.1) ∙ (sym same ∙ named_so (at (k + 1)) second.0 second.1),
