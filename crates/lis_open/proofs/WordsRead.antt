@@ -1,5 +1,5 @@
 -- The words of property slots: read one after another, and sorted once.
-use Rattle.lis_open.proofs.Common.{rules, ◌≡◌, ◌∙◌, refl, sym, ap, subst, inl, ℕ, ◌+◌, ◌<◌, Bool, true, false, not, is_some, Option, Some, None, List, replicate, get_or, IsTrue, IsSome, arith, ap₂, option_to_list, [], map, ⊎_elim, IfSome, length-set, get_or-set_same, get_or-set_other, fold, cases_lt, length-replicate, same_Some, Meaning, DiskFaultEnds, Held, Fits, slot, is_taken, number_of, word_of, word_from_number, number_from_word, number_below, prop_bytes, is_prop, PropSlot, FreeProp, Limits, Property, property_by, property_slots, some_number, word_in, insert_key, Among, among_map, map_among, among_flat_map, Filed, AxiomSlot, FreeAxiom, Pair, among_from_has_word, among_set_of, sorted_set_of, Metadata, bit_of, pair_by, pair_told, axioms_of, bytes_told, file_told, declared_there, there_declared, words_in, word_at, both_ways, get_or_past, has_word, flat_map_among, has_word_from_among, set_of_among, set_of, File, pair_cmp, file_of_record}
+use Rattle.lis_open.proofs.Common.{rules, ◌≡◌, ◌∙◌, refl, sym, ap, subst, inl, ℕ, ◌+◌, ◌<◌, Bool, true, false, Option, Some, None, List, replicate, get_or, IsTrue, IsSome, arith, ap₂, option_to_list, [], map, ⊎_elim, IfSome, length-set, get_or-set_same, get_or-set_other, fold, cases_lt, length-replicate, same_Some, Meaning, DiskFaultEnds, Held, Fits, slot, is_taken, number_of, word_of, word_from_number, number_from_word, number_below, prop_bytes, is_prop, PropSlot, FreeProp, Limits, Property, property_by, property_slots, word_in, insert_key, Among, among_map, map_among, among_flat_map, Filed, AxiomSlot, FreeAxiom, Pair, among_from_has_word, among_set_of, sorted_set_of, Metadata, bit_of, pair_by, pair_told, axioms_of, bytes_told, file_told, declared_there, there_declared, words_in, word_at, both_ways, get_or_past, has_word, flat_map_among, has_word_from_among, set_of_among, set_of, File, pair_cmp, file_of_record}
 use Rattle.lis_open.proofs.Once.{each_number}
 use Rattle.std.proofs.lemmas.List.{get_or-replicate}
 use Rattle.lis_graph.specs.Again.{IsAgain, IsFirstAgain}
