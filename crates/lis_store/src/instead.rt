@@ -22,6 +22,7 @@ use lis_derive::derive_words;
 use lis_kept::Metadata;
 use lis_limits::{MAX_ASSIGNED, MAX_DESCRIPTION};
 use lis_model::derived::Derived;
+use lis_model::limits::blocks_taken;
 use lis_model::refusal::Refusal;
 use lis_taxonomy::Search;
 use lis_words::{Name, Word, is_builtin};

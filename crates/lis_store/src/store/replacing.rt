@@ -18,6 +18,7 @@ use crate::retagging::{may_move, place_or_refusal};
 use crate::saving::MOST_HELD;
 use crate::store::Store;
 use lis_eval::Scratch;
+use lis_model::limits::file_limit;
 use lis_model::refusal::Refusal;
 use lis_place::{Place, Text};
 use lis_ports::Disk;
