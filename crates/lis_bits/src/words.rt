@@ -107,7 +107,7 @@ fn write_word(words: &[u64], k: usize, buf: &mut [u8])
     }
 }
 
-// Whether eight bytes are those of a word, the lowest byte first. They are compared together, so that they are one load.
+// Whether eight bytes are those of a word, the lowest byte first. They are compared as one number.
 fn is_word(word: u64, bytes: &[u8]) -> bool
     requires { length bytes.now ≡ 8 }
     ensures { IsTrue result ↔ ((i : ℕ) → i < 8 → slice_index bytes.now i ≡ bits_number 8 (λ bit. word_bit word (8 * i + bit))) }
