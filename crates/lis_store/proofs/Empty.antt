@@ -1,6 +1,6 @@
 -- A blank image has no words and no files: it represents the empty state.
 use Rattle.std.proofs.Common.{rules}
-use Rattle.lis_store.proofs.Common.{◌≡◌, refl, sym, ap, ◌∙◌, ℕ, zero, suc, ◌+◌, ◌-◌, ◌/◌, ◌<◌, ◌≤◌, ◌≢◌, false, List, [], get_or, take, replicate, slice_get, slice_index, Some, IsTrue, arith, ◌==◌, insert_key, Contains, length-replicate, get_or-replicate, slice_get_within, get_or_from_slice_get, among_from_contains, part, block, is_taken, Dict, IsDict, has, SpellsSuper, AxiomSlot, FreeAxiom, Pair, Limits, are_stored, bitmap_start, data_start, State, pair_cmp, Metadata, IsWritten, axiom_slots, Properties, Axioms, Bitmap, AreSound, Tells, among_slots, list_any, Meaning, both_ways, Files, Rows}
+use Rattle.lis_store.proofs.Common.{◌≡◌, refl, sym, ap, ◌∙◌, ℕ, zero, suc, ◌+◌, ◌-◌, ◌/◌, ◌<◌, ◌≤◌, ◌≢◌, false, List, [], get_or, take, replicate, slice_get, slice_index, Some, IsTrue, arith, ◌==◌, insert_key, Contains, length-replicate, get_or-replicate, slice_get_within, get_or_from_slice_get, among_from_contains, part, block, is_taken, Dict, IsDict, has, SpellsSuper, AxiomSlot, FreeAxiom, Pair, Limits, are_stored, bitmap_start, data_start, State, pair_cmp, Metadata, IsWritten, axiom_slots, Properties, Axioms, Bitmap, AreSound, Tells, among_slots, list_any, Meaning, both_ways, Files, Rows, true, KeepsInUse, is_linked}
 use Rattle.std.specs.List.{fold}
 use Rattle.std.proofs.lemmas.List.{drop-replicate, take-replicate, take-take}
 use Rattle.lis_slots.specs.Slots.{Slots, home, place, slot}
@@ -14,7 +14,8 @@ use Rattle.lis_model.specs.State.{empty_state}
 use Rattle.lis_laws.proofs.Steps.{empty_formed}
 use Rattle.lis_kept.specs.Areas.{Area, slots_of, row_slots}
 use Rattle.lis_kept.specs.Telling.{pairs_told}
-use Rattle.lis_kept.proofs.InArea.{whole_files, files_range, each_files_limit}
+use Rattle.lis_model.proofs.Stored.{stored_range, each_files_limit}
+use Rattle.lis_kept.proofs.InArea.{whole_files, files_range}
 use Rattle.lis_kept.proofs.Spelled.{row_bytes_none}
 use Rattle.lis_store.specs.Blank.{IsBlank}
 use Rattle.lis_store.specs.Stands.{Stands}
@@ -53,10 +54,38 @@ module _ (limits : Limits) (blocks : ℕ) where
   no_set n at = ap (λ ns. has_in ns n) (empty_set at)
 
   empty_are_sound : IsTrue (are_stored limits) → data_start limits ≤ blocks → AreSound metadata
-  empty_are_sound range room = search (rules, empty_dict, length-replicate, both_ways, none_set, no_axiom, empty_catalog, no_set)
+  empty_are_sound range room =
+      record {
+        range = range;
+        numbers = refl;
+        dict = empty_dict;
+        heads = λ n word is. absurd cc;
+        bits = length-replicate limits.props false;
+        flagged = λ n taken. absurd (both_ways (is_taken (replicate limits.props false) n) (none_set limits.props n) taken);
+        properties = search (rules, none_set);
+        axiom_count = length-replicate (axiom_slots limits).count FreeAxiom;
+        axioms = λ at left right is. absurd (no_axiom at left right is);
+        slots = refl;
+        catalog = empty_catalog;
+        records = λ at rec is. absurd cc;
+        blocks = length-replicate limits.blocks false;
+        rows = refl;
+        files = length-replicate {A = List ℕ} limits.files [];
+        named = λ n at some had. absurd (both_ways (has metadata.ext n at) (no_set n at) had);
+        settled = refl;
+        marks = search (rules, length-replicate);
+      }
 
   pub empty_sound : IsTrue (are_stored limits) → data_start limits ≤ blocks → IsSound (empty_stored limits blocks)
-  empty_sound range room = search (rules, empty_are_sound, no_set, no_axiom, both_ways, empty_set, length-replicate)
+  empty_sound range room =
+      let closed : (slot p q : ℕ) → has metadata.ext p slot ≡ true → is_linked metadata p q ≡ true → has metadata.ext q slot ≡ true =
+      λ slot p q had. absurd (both_ways (has metadata.ext p slot) (no_set p slot) had) in
+      let in_use : KeepsInUse metadata = record {
+        used = λ n is. absurd cc;
+        tags = λ slot rec is. absurd cc;
+        rights = λ at left right is. absurd (no_axiom at left right is);
+      } in
+      search (rules, empty_are_sound, no_set, no_axiom, both_ways, empty_set, length-replicate, closed, in_use)
 
 -- ---- blocks of zeros
 pub zeros-part : (at n total : ℕ) → at + n ≤ total → part at n (zeros total) ≡ zeros n
@@ -104,7 +133,7 @@ module _ (limits : Limits) (blocks : ℕ) (image : List ℕ) (range : IsTrue (ar
   tells_empty super = record {
     super = super;
     state = ap (λ es. record (empty_state limits) { axioms = fold (insert_key pair_cmp) [] es }) (no_pairs (axiom_slots limits).count (empty_metadata limits blocks).dict);
-    formed = empty_formed limits range;
+    formed = empty_formed limits (stored_range limits range);
     used = λ n is. absurd cc;
     described = λ f m. absurd (none_contained f m);
     taken = λ n lt is. absurd (both_ways (is_taken (replicate limits.blocks false) n) (none_set limits.blocks n) is);

@@ -8,6 +8,7 @@ use Rattle.lis_eval.specs.View.{TellsTest, name_and_slot}
 use Rattle.lis_kept.proofs.Dropped.{file_slot_below}
 use Rattle.lis_store.specs.Seen.{placed, seen_of, table_of}
 use Rattle.lis_store.specs.Judging.{is_among}
+use Rattle.std.proofs.Common.{Option}
 use Rattle.lis_store.proofs.StoreSays.{filed_named}
 
 module _ (k : Metadata) (sound : AreSound k) (place : List Formula) (name : List ℕ) where
@@ -28,7 +29,10 @@ module _ (k : Metadata) (sound : AreSound k) (place : List Formula) (name : List
 
   -- no file has the name
   pub none_here : slot_of k.catalog name ≡ None → is_among k place name ≡ false
-  none_here none = grind (arith, common_steps, false_from_ne_true, found_here, filed_slot)
+  none_here none = false_from_ne_true (is_among k place name) (λ some.
+      let found = found_here some in
+      let is : ◌≡◌ {A = Option ℕ} None (Some (found.0).slot) = sym none ∙ (ap (slot_of k.catalog) (sym found.1.named) ∙ filed_slot k.catalog sound.catalog found.0 found.1.there) in
+      cc)
 
   -- the file of the name is in the place exactly if the test of the place holds of its slot
   pub named_here : (slot : ℕ) (test : ℕ → Bool) → slot_of k.catalog name ≡ Some slot → TellsTest (seen_of k) test (holds_all place) → is_among k place name ≡ test slot

@@ -4,6 +4,8 @@ use Rattle.std.proofs.lemmas.List.{set_past}
 use Rattle.lis_content.proofs.Numbers.{below_if_taken}
 use Rattle.lis_kept.proofs.Dropped.{blocks_apart}
 use Rattle.lis_laws.proofs.Locals.{filter_same}
+use Rattle.lis_kept.proofs.InArea.{first_limit}
+use Rattle.std.proofs.lemmas.Bool.{cond-true, eq-eqb}
 use Rattle.lis_store.specs.Instead.{free_instead}
 
 -- if a block was taken, one more is free

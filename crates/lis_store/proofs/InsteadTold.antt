@@ -1,5 +1,5 @@
 -- The rows of `write` and `rename`: by what a store keeps they are the rows of the state.
-use Rattle.lis_store.proofs.Common.{◌≡◌, refl, sym, ap, ap₂, ◌∙◌, ℕ, ◌+◌, ◌==◌, nat_lt, Bool, true, false, not, cond, is_some, Some, None, List, [], ◌∷◌, ◌++◌, length, filter, arith, list_all, cond-false, not-false, free_count, is_taken, small_size, Filed, slot_of, rec_at, FileRecord, Among, contains_from_among, among_filter, Formula, same_word, Limits, Refusal, UnknownProperty, NameTaken, NoFileHere, LargeFile, NoSpace, data_start, State, File, is_assignable, file_limit, blocks_taken, has_name, derived_words, new_file, file_removed, file_replaced, Situation, Payload, refused, free_blocks, write, rename, file_of_name, Metadata, declared_of, bytes_told, blocks_told, record_in_form, filed_at_slot, file_of, changed, words_told, number_from_among}
+use Rattle.lis_store.proofs.Common.{◌≡◌, refl, sym, ap, ap₂, ◌∙◌, ℕ, ◌+◌, ◌==◌, nat_lt, Bool, true, false, not, cond, is_some, Some, None, List, [], ◌∷◌, ◌++◌, length, filter, arith, list_all, cond-false, not-false, free_count, is_taken, small_size, Filed, slot_of, rec_at, FileRecord, Among, contains_from_among, among_filter, Formula, same_word, Limits, Refusal, UnknownProperty, NameTaken, NoFileHere, LargeFile, NoSpace, data_start, State, File, is_assignable, file_limit, blocks_taken, has_name, derived_words, new_file, file_removed, file_replaced, Situation, Payload, refused, free_blocks, write, rename, file_of_name, Metadata, declared_of, bytes_told, blocks_told, record_in_form, filed_at_slot, file_of, changed, words_told, number_from_among, eqb-true}
 use Rattle.lis_content.proofs.Indexes.{small_blocks}
 use Rattle.lis_model.specs.Step.{blocks_for, is_here, room_checks, write_checks, rename_checks, first_refusal}
 use Rattle.lis_laws.proofs.Named.{gone_free, still_free}
@@ -17,6 +17,7 @@ use Rattle.lis_store.proofs.FreeBlocks.{version_told}
 use Rattle.lis_store.proofs.InsteadMay.{given_assignable}
 use Rattle.lis_store.proofs.InsteadKnown.{rest_known}
 use Rattle.lis_store.proofs.Admitted.{limits_are, free_are, words_row}
+use Rattle.lis_kept.proofs.InArea.{first_limit}
 use Rattle.lis_store.proofs.Judged.{same_behind, judged_refused, judged_done}
 
 -- ---- a file instead of another

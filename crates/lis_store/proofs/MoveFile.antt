@@ -2,7 +2,7 @@
 use Rattle.std.proofs.Common.{rules}
 use Rattle.lis_store.proofs.Common.{◌≡◌, sym, ap, ap₂, ◌∙◌, subst, ℕ, ◌≤◌, true, false, List, length, Some, None, Result, Ok, Err, IsSomeAnd, same_Some, slot_of, rec_at, FileRecord, Formula, resolved, text_words, is_file_name, new_file, file_replaced, State, File, Meaning, Refusal, NoFileHere, Situation, mv, retagged, Metadata, file_of, changed, tags_at}
 use Rattle.lis_grammar.specs.Places.{Resolution}
-use Rattle.lis_grammar.specs.Places.Resolution.{NewPlace}
+use Rattle.lis_grammar.specs.Places.Resolution.{NewPlace, Unreadable, BeyondLimits}
 use Rattle.lis_kept.proofs.Filed.{record_named}
 use Rattle.lis_store.specs.declared.change_fault.ChangeFault.{ChangeFault}
 use Rattle.lis_store.specs.declared.change_fault.ChangeFault.TheVariants.{Refused}
@@ -23,11 +23,25 @@ use Rattle.lis_store.proofs.ReplaceFile.{refiled_holds}
 use Rattle.lis_store.proofs.RetagTold.{mv_may, mv_here_refused, mv_here_done, mv_nowhere}
 use Rattle.lis_store.proofs.ToldBy.{ToldBy, told_held}
 use Rattle.lis_store.proofs.WriteFile.{found_there}
-use Rattle.lis_model.specs.Step.{first_refusal}
+use Rattle.lis_model.specs.declared.refusal.Refusal.TheVariants.{BadFormula, LargeFormula}
+use Rattle.lis_model.specs.Step.{first_refusal, mv_to, refused}
 
 -- the place to which a text leads
 pub led_to : (r : Resolution) (next : List Formula) → place_or_refusal r ≡ Ok next → r ≡ NewPlace next
 led_to r next is = search (rules, same_Some)
+
+-- a text that leads to no place
+led_nowhere : (now : Situation) (old : File) (text : List ℕ) (r : Resolution) (refusal : Refusal) → place_or_refusal r ≡ Err refusal → mv_to now old text r ≡ refused now refusal
+led_nowhere now old text Unreadable refusal is = let same : BadFormula ≡ refusal = cc in ap (refused now) same
+led_nowhere now old text BeyondLimits refusal is = let same : LargeFormula ≡ refusal = cc in ap (refused now) same
+led_nowhere now old text (NewPlace next) refusal is = absurd cc
+
+pub moved_to_none : {T : Type 0} (k : Stored) (m : Meaning) (base s : State) (place : List Formula) (name text : List ℕ) (refusal : Refusal) (result : Result T ChangeFault) → StoreHolds k m base s
+    → place_or_refusal (resolved place text) ≡ Err refusal → result ≡ Err (Refused refusal)
+    → Holds base (record { state = s; place = place }) (mv (record { state = s; place = place }) name text) k m m result
+moved_to_none k m base s place name text refusal result holds leads ends =
+    let now : Situation = record { state = s; place = place } in
+    change_refused k m base now (mv now name text) refusal result holds (led_nowhere now (file_of s.files name) text (resolved place text) refusal leads) ends
 
 -- no file of the name is here
 pub moved_nowhere : {T : Type 0} (old : Stored) (m : Meaning) (base s : State) (place next : List Formula) (name text : List ℕ) (result : Result T ChangeFault) → IsSound old → StoreHolds old m base s

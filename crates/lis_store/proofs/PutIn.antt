@@ -15,6 +15,7 @@ use Rattle.lis_store.specs.Adding.{is_one_of, numbers_named, AreNumbered, behind
 use Rattle.lis_store.specs.ReplacingIn.{MayComeIn, record_of}
 use Rattle.lis_store.proofs.Learning.{number_there, learns_more, number_learnt, room_left}
 use Rattle.lis_store.proofs.Naming.{one_of, named_one, named_few}
+use Rattle.lis_kept.proofs.InArea.{two_bytes}
 use Rattle.lis_store.proofs.Told.{words_grow}
 
 -- ---- words that may get numbers
@@ -140,8 +141,8 @@ module _ (r : Metadata) (sound : AreSound r) (words : List (List ℕ)) where
       (and_from (nat_le (length (numbers_named r.dict words)) 16) (fit 2 (numbers_named r.dict words))
       (le-leb (length (numbers_named r.dict words)) 16 (omega (arith, named_few r.dict sound.dict words, few)))
       (all_from (λ n. nat_lt n (2 ^ 16)) (numbers_named r.dict words) (λ n m.
-      lt-ltb n (2 ^ 16) (omega (arith, (among_where r.dict.props (λ k. is_one_of words (word_of r.dict k)) n m).0, sound.numbers, few_properties r.limits sound.range))))))
-      (rising_from_sorted nat_cmp nat_cmp_total (numbers_named r.dict words) (sorted_where r.dict.props (λ n. is_one_of words (word_of r.dict n))))
+      lt-ltb n (2 ^ 16) (omega (arith, (among_where r.dict.props (λ k. is_one_of words (word_of r.dict k)) n m).0, sound.numbers, few_properties r.limits sound.range)))))
+      (rising_from_sorted nat_cmp nat_cmp_total (numbers_named r.dict words) (sorted_where r.dict.props (λ n. is_one_of words (word_of r.dict n)))))
 
   pub named_rising : IsStrictlyIncreasing (numbers_named r.dict words)
   named_rising = IsStrictlyIncreasing-from_sorted (numbers_named r.dict words) (sorted_where r.dict.props (λ n. is_one_of words (word_of r.dict n)))
@@ -158,7 +159,8 @@ record_sound {p} {r} {draft} may sound learns blocks formed below =
     let rec = record_of (numbers_named r.dict draft.assigned) draft blocks in
     and_from (is_record r.limits rec && list_all (λ n. is_some (word_of r.dict n)) rec.tags) (list_all (λ n. nat_lt n r.limits.blocks) blocks)
     (and_from (is_record r.limits rec) (list_all (λ n. is_some (word_of r.dict n)) rec.tags)
-    (ap (λ (k : Metadata). is_record k.limits rec) learns.metadata ∙ record_from p.limits rec may.name may.small (named_tags r sound draft.assigned may.few) formed)
+    (ap (λ (k : Metadata). is_record k.limits rec) learns.metadata ∙ record_from p.limits rec may.name may.small
+    (subst (λ (k : Metadata). are_tags k.limits.version rec.tags ≡ true) learns.metadata (named_tags r sound draft.assigned may.few)) formed)
     (named_worded r sound draft.assigned))
     (ap (λ (k : Metadata). list_all (λ n. nat_lt n k.limits.blocks) blocks) learns.metadata ∙ below)
 

@@ -17,6 +17,7 @@ use Rattle.lis_store.proofs.StoreSays.{file_in_slot, told_below}
 use Rattle.lis_store.proofs.ToldBy.{told_fits}
 use Rattle.lis_store.proofs.Spelled.{sound_parts}
 use Rattle.lis_kept.proofs.Image.{same_blocks}
+use Rattle.lis_model.proofs.Stored.{stored_limit_le}
 use Rattle.lis_model.specs.Image.{properties_start}
 
 -- ---- pieces of one length
@@ -65,7 +66,7 @@ module _ {k : Stored} {slot n : ℕ} {rec : FileRecord} {ns : List ℕ} {size : 
   there = filed_at_slot k.metadata.catalog has.sound.metadata.catalog slot rec has.is_rec
 
   pub block_few : size ≤ 1048576
-  block_few = omega (arith, has.sized, size_fits k.metadata.limits rec.size (sound_parts k.metadata has.sound.metadata filed there).short)
+  block_few = omega (arith, has.sized, stored_limit_le k.metadata.limits has.sound.metadata.range, (sound_parts k.metadata has.sound.metadata filed there).short)
 
   pub block_counted : length ns ≡ slot_count size
   block_counted = ap length has.numbers ∙ (numbers_counted k.metadata has.sound.metadata filed there ∙ ap slot_count (sym has.sized))

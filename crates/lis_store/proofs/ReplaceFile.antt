@@ -27,6 +27,7 @@ use Rattle.lis_store.proofs.ToldBy.{ToldBy, told_held}
 use Rattle.lis_store.proofs.WriteFile.{found_there, written_enough}
 use Rattle.lis_journal.specs.Journal.{shape_of}
 use Rattle.lis_kept.specs.Image.{image_shape}
+use Rattle.lis_model.proofs.Stored.{stored_limit_le}
 use Rattle.lis_kept.proofs.Image.{same_layout, same_blocks, same_staged}
 
 may_retaken : (p : Metadata) (taken marks : List Bool) (slot : ℕ) (rec : FileRecord) (draft : Draft) → MayReplace p slot rec draft → MayReplace (retaken p taken marks) slot rec draft
@@ -149,7 +150,7 @@ module _ {old now : Stored} (same : old ≡ now) {mid : Metadata} {j : Held} (sl
   mid_first = subst (λ (x : Metadata). MayPut x slot (draft_of file)) (sym renews.metadata) (put_retaken k mid.taken mid.marks slot (draft_of file) first)
 
   pub mid_short : length bytes ≤ 1048576
-  mid_short = size_fits k.limits (length bytes) (put_small k slot (draft_of file) first)
+  mid_short = omega (arith, stored_limit_le k.limits sound.metadata.range, put_small k slot (draft_of file) first)
 
   pub mid_image : shape_of j ≡ shape_of now.journal
   mid_image = renews.image ∙ ap (λ (o : Stored). shape_of o.journal) same

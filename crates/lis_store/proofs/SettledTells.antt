@@ -109,7 +109,11 @@ module _ (file : File) (own : List (List ℕ)) {slot : ℕ} {old : List ℕ} {bl
       (subst (λ (x : State). Among x.files (told_then f)) state_then (map_among told_then k.catalog.entries f (among_from_contains k.catalog.entries f m)))
 
   told_new : told_then filed ≡ file
-  told_new = search (rules, told_of, new_there, of_state, old_name)
+  told_new = by (told_of filed new_there)
+    where
+      by : (file ≡ told_then filed) ⊎ Among s.files (told_then filed) → told_then filed ≡ file
+      by (inl same) = sym same
+      by (inr m) = let found = of_state (told_then filed) m in absurd (old_name found.0 found.1 (ap (λ (x : File). x.name) found.2))
 
   told_old : (f : Filed) → Among o.catalog.entries f → told_then f ≡ told f
   told_old f m = by (told_of f (old_there f m))

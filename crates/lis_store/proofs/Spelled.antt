@@ -15,7 +15,7 @@ use Rattle.lis_slots.specs.Slots.{slot}
 use Rattle.lis_bits.specs.Bytes.{bits_bytes}
 use Rattle.lis_bits.proofs.Numbers.{bytes_same}
 use Rattle.lis_dict.proofs.Laws.{number_from_among}
-use Rattle.lis_fields.specs.Layouts.{is_axiom, is_file, slot_blocks}
+use Rattle.lis_fields.specs.Layouts.{number_width, is_axiom, is_file, slot_blocks}
 use Rattle.lis_model.specs.Sets.{fit}
 use Rattle.lis_fields.proofs.Parts.{record_tests, few_blocks}
 use Rattle.lis_fields.specs.declared.slots.PropSlot.{PropSlot}

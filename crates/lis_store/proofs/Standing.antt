@@ -1,6 +1,6 @@
 -- What home blocks spell is represented by the images with these blocks.
 use Rattle.std.proofs.Common.{rules}
-use Rattle.lis_store.proofs.Common.{◌≡◌, refl, ap, ◌∙◌, subst, ℕ, List, [], Option, Some, None, IsTrue, IsSomeAnd, arith, Meaning, block, replayed, are_free, homes_of, among_homes, SpellsSuper, data_start, State, Metadata, IsWritten, AreSound, FreeSlotsAreEmpty, Tells}
+use Rattle.lis_store.proofs.Common.{◌≡◌, refl, ap, ◌∙◌, subst, ℕ, List, [], Option, Some, None, IsTrue, IsSomeAnd, arith, Meaning, block, replayed, are_free, homes_of, among_homes, SpellsSuper, data_start, State, Metadata, IsWritten, AreSound, FreeSlotsAreEmpty, Tells, Limits, are_stored}
 use Rattle.lis_ports.specs.Runs.{Always}
 use Rattle.lis_ports.proofs.Always.{always_weaken}
 use Rattle.lis_journal.specs.Images.{KeepsBut, StandsFor as KeptBy, StandsBut}
@@ -36,7 +36,7 @@ module _ (k : Metadata) (at : ℕ → List ℕ) (s : State) (sound : AreSound k)
           let same = same_replay r keeps in
           let tells_then = tells_elsewhere k blocks at there sound free same s tells in
           record {
-            range = tells.formed.limits;
+            range = subst (λ (l : Limits). IsTrue (are_stored l)) limits_are sound.range;
             super = subst (λ (bytes : List ℕ). SpellsSuper s.limits bytes) (replayed-front (image_layout s.limits) image r (omega arith) but.0 is) tells_then.super;
             long = but.0;
             replay = r;

@@ -44,7 +44,10 @@ module _ (k : Metadata) (sound : AreSound k) where
   -- the record in the slot of a name has the name
   pub filed_named : (name : List ℕ) (slot : ℕ) (rec : FileRecord) → slot_of k.catalog name ≡ Some slot → rec_at k.catalog slot ≡ Some rec
       → Among k.catalog.entries (record { slot = slot; rec = rec }) × (rec.name ≡ name)
-  filed_named name slot rec is_slot is_rec = search (rules, rec_at-slot_of, same_Some, filed_at_slot)
+  filed_named name slot rec is_slot is_rec =
+      let found = rec_at-slot_of k.catalog name slot sound.catalog is_slot in
+      let same : found.0 ≡ rec = same_Some found.0 rec (sym found.1 ∙ is_rec) in
+      (filed_at_slot k.catalog sound.catalog slot rec is_rec, ap (λ (r : FileRecord). r.name) (sym same) ∙ found.2)
 
 -- ---- what memory represents
 module _ (k : Metadata) (at : ℕ → List ℕ) (s : State) (sound : AreSound k) (free : FreeSlotsAreEmpty k) (tells : Tells k at s) where

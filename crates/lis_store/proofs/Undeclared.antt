@@ -183,7 +183,7 @@ module _ {old : Stored} {word : List ℕ} {number : ℕ} (sound : IsSound old) (
     gone_word = undeclares.words number ∙ ap (λ b. if b then None else word_of made.dict number) (eq-eqb number number refl)
 
     stays : (n : ℕ) → (n ≡ number → ⊥) → word_of q.dict n ≡ word_of p.dict n
-    stays n differ = search (rules, ne_eqb)
+    stays n differ = undeclares.words n ∙ (ap (λ b. if b then None else word_of made.dict n) (ne_eqb number n (λ same. differ (sym same))) ∙ ap (λ (k : Metadata). word_of k.dict n) gone.takes.metadata)
 
     word_before : (n : ℕ) → IsSome (word_of q.dict n) → n ≡ number → ⊥
     word_before n some same = both_ways (is_some (word_of q.dict n)) (ap is_some (ap (word_of q.dict) same ∙ gone_word)) some

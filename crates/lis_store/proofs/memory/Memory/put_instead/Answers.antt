@@ -1,4 +1,4 @@
-use Rattle.lis_store.proofs.Common.{◌≡◌, ◌∙◌, ℕ, ◌+◌, ◌==◌, Some, Ok, Err, length, filter, sym, ap, subst, arith, eq-eqb, err_from_is_err_and, is_taken, free_count, rec_at, small_size, Limits, file_limit, Metadata, Held}
+use Rattle.lis_store.proofs.Common.{◌≡◌, ◌∙◌, ℕ, ◌+◌, ◌==◌, Some, Ok, Err, length, filter, sym, ap, subst, arith, eq-eqb, err_from_is_err_and, is_taken, free_count, rec_at, small_size, Limits, file_limit, Metadata, Held, ◌≢◌}
 use Rattle.std.proofs.lemmas.Bool.{cond-false, ne_eqb}
 use Rattle.lis_kept.specs.Image.{image_shape}
 use Rattle.lis_journal.specs.Journal.{shape_of}
@@ -32,8 +32,8 @@ returns-in_err-free_content-clause-renewed g c = λ rec there.
     m (g.D.Disk.meaning c.put_content.new.disk) after c.in_err-free_content.field-0.0 c.from_residual-in_err-free_content.result
     c.limits.ensures.sound puts (c.in_err-free_content.ensures.given rec (ap (λ (x : Metadata). rec_at x.catalog c.args.slot) puts.takes.metadata ∙ there)) (e.1 ∙ ap Err e.2))
 
-pub returns-then-limits-eq2-clause-renewed : goal.returns-then-limits-eq2-clause-renewed
-returns-then-limits-eq2-clause-renewed g c = λ rec there.
+pub returns-then-limits-ne1-clause-renewed : goal.returns-then-limits-ne1-clause-renewed
+returns-then-limits-ne1-clause-renewed g c = λ rec there.
     let puts = c.in_ok-numbers.ensures.put in
     let given = c.in_ok-free_content.ensures.given rec (ap (λ (x : Metadata). rec_at x.catalog c.args.slot) puts.takes.metadata ∙ there) in
     let m = g.D.Disk.meaning c.args.disk.now in

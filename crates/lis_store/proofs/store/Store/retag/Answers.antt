@@ -2,7 +2,7 @@ use Rattle.lis_store.proofs.Common.{◌∙◌, Err, length, is_some, refl, sym, 
 use Rattle.lis_store.specs.Memory.{stored}
 use Rattle.lis_store.specs.Stored.{Stored, IsSound, StoreHolds}
 use Rattle.lis_store.proofs.Keeping.{ends_saved}
-use Rattle.lis_store.proofs.MoveFile.{led_to, moved_nowhere, moving_refused, standing_refused, move_asks, move_holds}
+use Rattle.lis_store.proofs.MoveFile.{led_to, moved_nowhere, moving_refused, standing_refused, move_asks, move_holds, moved_to_none}
 use Rattle.lis_store.proofs.ReplaceFile.{still_in_form, still_below, refiled_change}
 use Rattle.lis_store.proofs.SavedAlone.{change_saves, whole_view}
 use Rattle.lis_store.proofs.WriteFile.{found_there}
@@ -79,4 +79,8 @@ returns-clause-holds g c = λ base s holds.
     c.replace_draft.ensures.refiles c.blocks_in-blocks.ensures c.requires.usable.unbroken (g.D.Disk.meaning c.args.disk.now) base s holds new (g.D.Disk.meaning c.hold.new.disk) c.hold.result c.hold.ensures.saves
 
 pub returns-in_err-next : goal.returns-in_err-next
-returns-in_err-next g c = search rules
+returns-in_err-next g c =
+    let holds = λ (base : State) (s : State) (holds : StoreHolds c.args.self.now (g.D.Disk.meaning c.args.disk.now) base s).
+    let e = err_from_is_err_and c.from_residual.result c.from_residual.ensures.1 in
+    moved_to_none c.args.self.now (g.D.Disk.meaning c.args.disk.now) base s c.args.place.now c.args.name.now c.args.text.now c.in_err-next.field-0.0 c.from_residual.result holds (sym c.in_err-next.ensures) (e.1 ∙ ap Err e.2) in
+    search (rules, holds)
