@@ -1,7 +1,8 @@
 -- What each change does to a situation.
-use Rattle.std.specs.Prelude.{◌≡◌, ℕ, ◌≤◌, length, IsTrue, ⊤}
+use Rattle.std.specs.Prelude.{◌≡◌, ◌≤◌, length, IsTrue, ⊤}
 use Rattle.lis_ports.specs.Meaning.{Meaning}
 use Rattle.lis_ports.specs.Calls.{IsUnchanged}
+use Rattle.lis_model.specs.declared.limits.Limits.{Limits}
 use Rattle.lis_model.specs.State.{file_limit}
 use Rattle.lis_model.specs.Step.{Situation, Outcome, mkdir, rmdir, add_axiom, unaxiom, add, write, rm, mv, rename}
 use Rattle.lis_store.specs.declared.write.Write.{Write}
@@ -20,7 +21,7 @@ written now (Retag name text) = mv now name.now text.now
 written now (Rename name other) = rename now name.now other.now
 
 -- There are as many bytes as the size says, if a file may have this many.
-abbrev pub IsWhole : ℕ → Write → Type 0
+abbrev pub IsWhole : Limits → Write → Type 0
 IsWhole limits (Add file) = file.size ≤ file_limit limits → length file.bytes.now ≡ file.size
 IsWhole limits (WriteBytes name bytes size) = size ≤ file_limit limits → length bytes.now ≡ size
 IsWhole limits write = ⊤
