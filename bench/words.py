@@ -59,11 +59,12 @@ class Word(typing.NamedTuple):
 
 
 NO_LIMITS = (("65", "64", "8"), ("8192", "64", "8"), ("64", "63", "8"), ("64", "64", "0"), ("64", "64", "32769"), ("64", "64", "x"),
-             ("64", "64", "-1"), ("000000000064", "64", "0000000000008"), (*LIMITS, "V2"), (*LIMITS, "v2", "v2"), ("v2", *LIMITS))
+             ("64", "64", "-1"), ("000000000064", "64", "0000000000008"), (*LIMITS, "V2"), (*LIMITS, "v2", "v2"), ("v2", *LIMITS), (*LIMITS, "v4"), (*LIMITS, "v2|v3"), ("524288", "64", "8", "v3"),
+             ("64", "1048640", "8", "v3"), ("64", "64", "16777217", "v3"), ("8192", "8256", "32769", "v2"), ("8192", "8256", "32769", "V3"))
 NO_NAMES = (("", "f"), (".", "f"), ("..", "f"), ("a/b", "f"), ("a b", "f"), ("a" * 61, "f"))
 WORDS = (
     Word("try", NO_IMAGE, LIMITS, SESSION, (b"mkdir music\n", b"create song music\n", b"ls\n"), b"ok\nok\nf song\nok\n", wrong=NO_LIMITS),
-    Word("make", MADE, LIMITS, looks=b"s files 0\ns known 0\ns axioms 0\ns free 8\nok\n", wrong=NO_LIMITS),
+    Word("make", MADE, LIMITS, looks=b"s files 0\ns known 0\ns axioms 0\ns free 8\nok\n", wrong=(*NO_LIMITS, (*LIMITS, "v3"), ("131072", "64", "8", "v3"))),
     Word("run", CHANGED, (), SESSION, (b"mkdir jazz\n", b"axiom jazz music\n", b"add tune 5 jazz\nhello\n", b"rm song\n", b"ls\n"),
          b"ok\nok\nok\nok\nd ext:\nd music\nok\n", look=b"ls\ncat tune\n", looks=b"d ext:\nd music\nok\nb 5\nhello\nok\n"),
     Word("load", CHANGED, (), SESSION, (b"mkdir jazz\n", b"axiom jazz music\n", b"add tune 5 jazz\nhello\n", b"rm song\n", b"ls\n"),
@@ -83,25 +84,29 @@ WORDS = (
 )
 
 
-# The valid values of a word in capital letters in a form.
-KINDS = {
-    "IMAGE": lambda text: True,
-    "FILES": lambda text: number_of(text) in [1 << k for k in range(6, 13)],
-    "PROPS": lambda text: number_of(text) in range(64, 8193, 64),
-    "BLOCKS": lambda text: number_of(text) in range(1, 32769),
-    "N": lambda text: number_of(text) in range(1 << 31),
-    "NAME": lambda text: re.fullmatch(r"[A-Za-z0-9_.+@-]{1,60}", text) is not None and text not in (".", ".."),
-    "F": lambda text: True,
-}
+# The words that say a version, the newest last; without one it is version 1.
+VERSIONS = {"v2": 2, "v3": 3}
+# The most files, words and data blocks of a version.
+MOST = {1: (4096, 8192, 32768), 2: (4096, 8192, 32768), 3: (262144, 1048576, 16777216)}
 
+# The valid values of a word in capital letters in a form, in each version.
+KINDS = {
+    "IMAGE": lambda text, version: True,
+    "FILES": lambda text, version: number_of(text) in [1 << k for k in range(6, 19) if 1 << k <= MOST[version][0]],
+    "PROPS": lambda text, version: number_of(text) in range(64, MOST[version][1] + 1, 64),
+    "BLOCKS": lambda text, version: number_of(text) in range(1, MOST[version][2] + 1),
+    "N": lambda text, version: number_of(text) in range(1 << 31),
+    "NAME": lambda text, version: re.fullmatch(r"[A-Za-z0-9_.+@-]{1,60}", text) is not None and text not in (".", ".."),
+    "F": lambda text, version: True,
+}
 
 # What wrong use says about a word outside these.
 RANGES = {
-    "FILES": "a power of two from 64 to 4096",
-    "PROPS": "a multiple of 64 from 64 to 8192",
-    "BLOCKS": "a number from 1 to 32768",
-    "N": "a number from 0 to 2147483647",
-    "NAME": "1 to 60 letters, digits and _ - . + @, and neither . nor ..",
+    "FILES": lambda version: f"a power of two from 64 to {MOST[version][0]} in version {version}",
+    "PROPS": lambda version: f"a multiple of 64 from 64 to {MOST[version][1]} in version {version}",
+    "BLOCKS": lambda version: f"a number from 1 to {MOST[version][2]} in version {version}",
+    "N": lambda version: "a number from 0 to 2147483647",
+    "NAME": lambda version: "1 to 60 letters, digits and _ - . + @, and neither . nor ..",
 }
 
 
@@ -116,12 +121,17 @@ def forms_of(usage):
     for line in usage.splitlines()[1:]:
         words = line.split()[1:]
         last = re.fullmatch(r"\[(.*)\]", words[-1])
-        forms += [words[:-1], words[:-1] + [last[1]]] if last else [words]
+        forms += [words[:-1], *(words[:-1] + [one] for one in last[1].split("|"))] if last else [words]
     return forms
 
 
+def version_of(form):
+    """The version of which a form is."""
+    return VERSIONS.get(form[-1], 1)
+
+
 def is_form(forms, words):
-    return any(len(form) == len(words) and all(KINDS[part](word) if part in KINDS else part == word for part, word in zip(form, words))
+    return any(len(form) == len(words) and all(KINDS[part](word, version_of(form)) if part in KINDS else part == word for part, word in zip(form, words))
                for form in forms)
 
 
@@ -131,10 +141,12 @@ def told_of(usage, words):
     own = [line for line in lines if words and line.split()[1] == words[0]]
     if not own:
         return head + (f"there is no word '{words[0]}'\n" if words else "") + "".join(lines)
+    forms = [form for form in forms_of(head + "".join(own)) if len(form) == len(words)]
     told = []
-    for form in forms_of(head + "".join(own)):
-        if len(form) == len(words):
-            told = [(part, word, RANGES[part]) for part, word in zip(form, words) if part in RANGES and not KINDS[part](word)]
-            if form[-1] == "v2" != words[-1]:
-                told.append(("the last word", words[-1], "v2, or left out"))
+    # A last word that says no version that the word may have counts as the newest.
+    for form in [form for form in forms if form[-1] == words[-1]] or forms[-1:]:
+        version = version_of(form)
+        told = [(part, word, RANGES[part](version)) for part, word in zip(form, words) if part in RANGES and not KINDS[part](word, version)]
+        if form[-1] in VERSIONS and form[-1] != words[-1]:
+            told.append(("the last word", words[-1], f"{', '.join(form[-1] for form in forms)}, or left out"))
     return head + "".join(f"{part} is '{word}', and has to be {range_}\n" for part, word, range_ in told) + "".join(own)

@@ -45,7 +45,7 @@ import threading
 from collections.abc import Callable, Collection, Iterable, Iterator, Mapping, Sequence
 from typing import IO, TYPE_CHECKING, Literal, NamedTuple, Protocol, TypeAlias, overload
 
-from lisfs.constants import MAX_DIGITS, MAX_LINE, MAX_PAYLOAD, ROOMS
+from lisfs.constants import MAX_DIGITS, MAX_LARGE_FILE, MAX_LINE, ROOMS
 from lisfs.words import is_word
 
 if TYPE_CHECKING:
@@ -200,8 +200,8 @@ def item(words: Sequence[bytes], payload: bytes | None = None, longest: int = MA
         return Item(line + b"\n", b"")
     if payload is None or size is None:
         raise NotSent(f"`{line.decode(errors='backslashreplace')}` {'takes no' if size is None else 'needs a'} payload")
-    if int(size) != len(payload) or len(payload) > MAX_PAYLOAD:
-        raise NotSent(f"the line says {int(size)} bytes, and the payload has {len(payload)}; it has at most {MAX_PAYLOAD}")
+    if int(size) != len(payload) or len(payload) > MAX_LARGE_FILE:
+        raise NotSent(f"the line says {int(size)} bytes, and the payload has {len(payload)}; it has at most {MAX_LARGE_FILE}")
     return Item(line + b"\n", payload + b"\n")
 
 
@@ -250,10 +250,10 @@ class Items:
 
     def _await_payload(self, line: bytes, count: int) -> None:
         self._line, self._kept, self._dropped, self._in_place = line, count, 0, b""
-        if count > MAX_PAYLOAD:
+        if count > MAX_LARGE_FILE:
             begin, end = [word.span() for word in WORD.finditer(line.removesuffix(b"\r"))][2]
-            self._line = line[:begin] + b"%d" % (MAX_PAYLOAD + 1) + line[end:]
-            self._kept, self._dropped, self._in_place = 0, count, bytes(MAX_PAYLOAD + 1)
+            self._line = line[:begin] + b"%d" % (MAX_LARGE_FILE + 1) + line[end:]
+            self._kept, self._dropped, self._in_place = 0, count, bytes(MAX_LARGE_FILE + 1)
 
     def _with_payload(self, line: bytes) -> Item | None:
         dropped = min(self._dropped, len(self._given))
@@ -295,7 +295,7 @@ class Replies:
 
     def _content(self, begin: int, size: int) -> Tagged | None:
         end = begin + size + len(b"\nok\n")
-        if size > MAX_PAYLOAD:
+        if size > MAX_LARGE_FILE:
             raise NotAReply(f"a content of {size} bytes")
         if len(self.shown) < end:
             return None

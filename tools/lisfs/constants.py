@@ -1,14 +1,14 @@
 """Limits, built-in heads and refusals of the program. `tools/make-constants` copies them from its sources: change those, and run it again."""
 
-# The most files of an image.
+# The most files of an image of version 1 or 2.
 MAX_FILES = 4_096
-# The most words of an image.
+# The most words of an image of version 1 or 2.
 MAX_PROPS = 8_192
-# The most data blocks of an image.
+# The most data blocks of an image of version 1 or 2.
 MAX_BLOCKS = 32_768
-# The most bytes of a file in an image of the first version.
+# The most bytes of a file in version 1.
 MAX_FILE = 65_536
-# The most bytes of a file in an image of the second version.
+# The most bytes of a file in version 2.
 MAX_LARGE_FILE = 1_048_576
 # Bytes of a block.
 BLOCK_LEN = 4_096
@@ -32,11 +32,9 @@ MAX_NODES = 64
 MAX_FORMULA = 1_024
 # The most bytes of a line, without its line feed.
 MAX_LINE = 1_024
-# The most bytes of a payload.
-MAX_PAYLOAD = 1_048_576
 # The most bytes of an edited view.
 MAX_VIEW = 8_388_608
-# The most blocks of an image.
+# The most blocks of an image of version 1 or 2.
 MAX_IMAGE_BLOCKS = 34_771
 # The most digits of a count.
 MAX_DIGITS = 12

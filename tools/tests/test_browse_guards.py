@@ -6,7 +6,7 @@ import urllib.parse
 
 import pytest
 
-from lisfs.constants import MAX_PAYLOAD
+from lisfs.constants import MAX_LARGE_FILE
 from support.costs import bounded, taken_by
 from support.visitors import Browsed
 from support.waiting import threads_of
@@ -208,7 +208,7 @@ def test_a_page_beside_hundreds_that_wait(large, crowd):
 
 def filled(begin, piece, end=b"\n\n"):
     """As many bytes as a file may have."""
-    return begin + piece * ((MAX_PAYLOAD - len(begin) - len(end)) // len(piece)) + end
+    return begin + piece * ((MAX_LARGE_FILE - len(begin) - len(end)) // len(piece)) + end
 
 
 def numbered(form):
@@ -220,7 +220,7 @@ def numbered(form):
 UPLOADS = {
     "one long Subject": ("x.eml", filled(b"Subject: ", b"x")), "quotes": ("x.eml", filled(b"From: ", b'"')),
     "one word of a Subject again and again": ("x.eml", filled(b"Subject: ", b"a ")),
-    "words of a Subject": ("x.eml", (b"Subject: " + b"".join(b"%x " % number for number in range(180_000)))[:MAX_PAYLOAD - 2] + b"\n\n"),
+    "words of a Subject": ("x.eml", (b"Subject: " + b"".join(b"%x " % number for number in range(180_000)))[:MAX_LARGE_FILE - 2] + b"\n\n"),
     "more words than are kept": ("x.eml", filled(b"Subject: " + numbered(b"w%d "), b"a ")),
     "long words": ("x.eml", filled(b"Subject: " + numbered(b"w" * 50 + b"%02d "), b"w" * 50 + b"xx ")),
     "a folded Subject": ("x.eml", filled(b"Subject: " + numbered(b"w%d "), b"\n a")),

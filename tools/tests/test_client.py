@@ -10,7 +10,7 @@ import pytest
 
 from lisfs import client
 from lisfs.client import CONTENT, LINES, ROOM_LINE, Ended, Items, Locked, NotAReply, NotSent, Program, Refused, item, shown
-from lisfs.constants import MAX_PAYLOAD
+from lisfs.constants import MAX_LARGE_FILE
 from support import images, with_package
 from support.replies import CONTENTS, DONE, told_by
 from support.waiting import children, is_full, rest, unread, until
@@ -146,7 +146,7 @@ NOT_SENT = (((), None), ((b"",), None), ((b"mkdir", b""), None), ((b"mkdir", b"a
             ((b"mkdir", b"a\r"), None), ((b"mkdir a",), None), ((b"x" * 1025,), None), ((b"add", b"a", b"1"), None), ((b"write", b"a", b"0"), None),
             ((b"ls",), b""), ((b"add", b"a"), b"x"), ((b"add", b"a", b"x"), b"x"), ((b"add", b"a", b"0" * 13), b""), ((b"add", b"a", b"1"), b""),
             ((b"add", b"a", b"1"), b"xy"), ((b"add", b"a", b"1") + (LONG,) * 17, b"x"),
-            ((b"add", b"a", b"1048577"), b"x" * (MAX_PAYLOAD + 1)), ((b"add", b"a", b"999999999999"), b"x"))
+            ((b"add", b"a", b"1048577"), b"x" * (MAX_LARGE_FILE + 1)), ((b"add", b"a", b"999999999999"), b"x"))
 
 
 @pytest.mark.parametrize("number", range(len(NOT_SENT)))
@@ -157,7 +157,7 @@ def test_not_sent(deaf, number):
 
 
 def test_not_sent_by_a_command(deaf):
-    assert told_by(deaf.add, b"a", b"x" * (MAX_PAYLOAD + 1)) == NotSent, "a content that is too large"
+    assert told_by(deaf.add, b"a", b"x" * (MAX_LARGE_FILE + 1)) == NotSent, "a content that is too large"
     assert told_by(deaf.write, b"a 0", b"x") == NotSent, "a file of two words"
     assert told_by(deaf.receive) == RuntimeError, "nothing waits"
 
@@ -268,9 +268,9 @@ def test_ahead():
         lengths = {len(program.receive().body) for _ in range(10_000)}
         assert lengths == {100}, "10,000 commands ahead"
         assert told_by(program.ask, b"frob") == (Refused, 1, "bad line"), "and the next"
-        content = os.urandom(MAX_PAYLOAD)
+        content = os.urandom(MAX_LARGE_FILE)
         for number in range(20):
-            program.send(b"add", b"large", b"%d" % MAX_PAYLOAD, payload=content)
+            program.send(b"add", b"large", b"%d" % MAX_LARGE_FILE, payload=content)
             program.send(b"cat", b"large")
         got = [told_by(program.receive) for _ in range(40)]
         assert got == [DONE, (CONTENT, content)] * 20, "contents ahead"
@@ -287,8 +287,8 @@ def test_ahead():
 
 def test_a_program_that_shows_and_says_much():
     with made_up("loud") as program:
-        content = b"\0" * MAX_PAYLOAD
-        program.send(b"add", b"x", b"%d" % MAX_PAYLOAD, payload=content)
+        content = b"\0" * MAX_LARGE_FILE
+        program.send(b"add", b"x", b"%d" % MAX_LARGE_FILE, payload=content)
         program.send(b"cat", b"x")
         program.send(b"quiet")
         assert len(program.receive().body) == 2_001, "a program that shows and says much ahead"
@@ -358,9 +358,9 @@ def test_the_end_behind_a_reply_of_a_room(shown):
 
 def test_what_a_program_does_not_take_is_kept():
     program = made_up("deaf")
-    content = os.urandom(MAX_PAYLOAD)
+    content = os.urandom(MAX_LARGE_FILE)
     for name in (b"a", b"b"):
-        program.send_bytes(*item((b"add", name, b"%d" % MAX_PAYLOAD), content), wait=False)
+        program.send_bytes(*item((b"add", name, b"%d" % MAX_LARGE_FILE), content), wait=False)
     assert program.push(), "something is left"
     assert program.receive_bytes(wait=False) is None, "no reply"
     program.kill()
@@ -368,22 +368,22 @@ def test_what_a_program_does_not_take_is_kept():
 
 
 def test_what_is_kept_goes_out_later():
-    content = os.urandom(MAX_PAYLOAD)
+    content = os.urandom(MAX_LARGE_FILE)
     with made_up("rooms") as program:
         for name in (b"a", b"b"):
-            program.send_bytes(*item((b"add", name, b"%d" % MAX_PAYLOAD), content), room=1, wait=False)
+            program.send_bytes(*item((b"add", name, b"%d" % MAX_LARGE_FILE), content), room=1, wait=False)
             program.send_bytes(b"cat %b\n" % name, room=2, wait=False)
         got = []
         while len(got) < 4:
             readable, _, _ = select.select([program], [program.input_fileno()] if program.push() else [], [])
             if readable and (whole := program.receive_bytes(wait=False)):
                 got.append(whole)
-        assert got == [b"ok\n", b"b %d\n%b\nok\n" % (MAX_PAYLOAD, content)] * 2, "what was kept goes out"
-        program.send_bytes(*item((b"add", b"c", b"%d" % MAX_PAYLOAD), content), room=3, wait=False)
+        assert got == [b"ok\n", b"b %d\n%b\nok\n" % (MAX_LARGE_FILE, content)] * 2, "what was kept goes out"
+        program.send_bytes(*item((b"add", b"c", b"%d" % MAX_LARGE_FILE), content), room=3, wait=False)
     assert told_by(program.receive) == DONE, "and at the closing"
 
 
-LARGE = bytes(MAX_PAYLOAD + 1)
+LARGE = bytes(MAX_LARGE_FILE + 1)
 # An input, its commands, and how it ends: complete, within a line or after a payload, or within a payload.
 WHOLE, LACKS_FEED, IS_CUT = (False, False), (False, True), (True, False)
 INPUTS = (
@@ -402,11 +402,11 @@ INPUTS = (
     (b" " * 22 + b"\nls\n", [b" " * 21 + b"\n", b"ls\n"], WHOLE), (b"x" * 20 + b"\r\n", [b"x" * 20 + b"\r\n"], WHOLE),
     (b"add aaaaaaaaa 1 xxxxxx\nx\n", [b"add aaaaaaaaa 1 xxxxx\n", b"x\n"], WHOLE),
     (b"x" * 100_000, [], LACKS_FEED), (b"add a 1048576 b\n" + LARGE[:-1] + b"\n", [b"add a 1048576 b\n" + LARGE[:-1] + b"\n"], WHOLE),
-    (b"add a 1048577 b\n" + b"x" * (MAX_PAYLOAD + 1) + b"\nls\n", [b"add a 1048577 b\n" + LARGE + b"\n", b"ls\n"], WHOLE),
-    (b"write  a 01048580\r\n" + b"x" * (MAX_PAYLOAD + 4) + b"\nls\n", [b"write  a 1048577\r\n" + LARGE + b"\n", b"ls\n"], WHOLE),
+    (b"add a 1048577 b\n" + b"x" * (MAX_LARGE_FILE + 1) + b"\nls\n", [b"add a 1048577 b\n" + LARGE + b"\n", b"ls\n"], WHOLE),
+    (b"write  a 01048580\r\n" + b"x" * (MAX_LARGE_FILE + 4) + b"\nls\n", [b"write  a 1048577\r\n" + LARGE + b"\n", b"ls\n"], WHOLE),
     (b"add a 2\r\r\nls\n", [b"add a 2\r\r\n", b"ls\n"], WHOLE), (b"add a 2\r\nxy\nls\n", [b"add a 2\r\nxy\n", b"ls\n"], WHOLE),
     (b"add a 2 \r\r\nxy\n", [b"add a 2 \r\r\nxy\n"], WHOLE), (b"add\r\r\n\r\r\r\n", [b"add\r\r\n", b"\r\r\r\n"], WHOLE),
-    (b"add a 1048578\n" + b"x" * (MAX_PAYLOAD + 2) + b"yz\nls\n", [b"add a 1048577\n" + LARGE + b"y\n", b"ls\n"], WHOLE),
+    (b"add a 1048578\n" + b"x" * (MAX_LARGE_FILE + 2) + b"yz\nls\n", [b"add a 1048577\n" + LARGE + b"y\n", b"ls\n"], WHOLE),
     (b"add a 999999999999\n" + LARGE, [], IS_CUT), (b"add a 1048577\n" + LARGE, [], LACKS_FEED), (b"add a 1048577\n" + LARGE[1:], [], IS_CUT),
     (b"add a 1048577\n" + LARGE + b"x", [], LACKS_FEED),
 )
@@ -561,7 +561,7 @@ def test_cut_off():
     somebody = threading.Thread(target=press)
     somebody.start()
     with pytest.raises(KeyboardInterrupt):
-        program.add(b"x", b"y" * MAX_PAYLOAD)
+        program.add(b"x", b"y" * MAX_LARGE_FILE)
     somebody.join()
     signal.signal(signal.SIGUSR1, before)
     assert told_by(program.ls) == NotSent, "a command behind one that was cut off"

@@ -6,7 +6,7 @@ import pytest
 
 import runs
 from lisfs.client import CONTENT, LINES, PROGRAM, Ended, Locked, Program, Refused, held
-from lisfs.constants import MAX_PAYLOAD
+from lisfs.constants import MAX_LARGE_FILE
 from support import images, inputs
 from support.replies import CONTENTS, DONE, told_by
 from support.waiting import unread, until
@@ -144,7 +144,7 @@ def test_a_locked_image(image):
 def test_kill(image):
     """The program is killed in the middle of a reply: what was replied to is durable."""
     program = images.session(image)
-    content = os.urandom(MAX_PAYLOAD)
+    content = os.urandom(MAX_LARGE_FILE)
     program.add(b"x", content)
     program.send(b"cat", b"x")
     # More than a pipe holds, so that it is in the middle of this reply.

@@ -6,7 +6,7 @@ import subprocess
 import pytest
 
 from lisfs.client import FULL, Program, Refused
-from lisfs.constants import MAX_PAYLOAD
+from lisfs.constants import MAX_LARGE_FILE
 from support.peers import (
     AT_THE_END, LIMITS, PWD, TALK, Peer, Served, asked, connected, drive, make, ran, random_input, random_session, refusing, script, talked, written)
 from support.terminals import Terminal
@@ -47,7 +47,7 @@ def test_a_session_in_a_file(served):
 
 def test_a_python_program_over_talk(served):
     with Program([TALK, "socket"]) as program:
-        content = os.urandom(MAX_PAYLOAD)
+        content = os.urandom(MAX_LARGE_FILE)
         assert program.pwd().body == [(b"w", b"/")], "a Python program over talk"
         program.add(b"python", content)
         assert program.cat(b"python").body == content, "and a whole file"
@@ -130,8 +130,8 @@ def test_a_long_line_is_refused_to_its_own_client(served):
 
 def test_not_reading(served):
     """A client that never reads delays nobody, and uses little memory; the client after it starts at the root."""
-    content = os.urandom(MAX_PAYLOAD)
-    assert talked(b"mkdir deep\nadd large %d deep\n%b\n" % (MAX_PAYLOAD, content))[1] == b"ok\nok\n", "a large file"
+    content = os.urandom(MAX_LARGE_FILE)
+    assert talked(b"mkdir deep\nadd large %d deep\n%b\n" % (MAX_LARGE_FILE, content))[1] == b"ok\nok\n", "a large file"
     before = served.memory()
     deaf = [Peer(b"cd deep\n" + b"cat large\n" * 100_000) for _ in range(7)]
     with connected() as other:
@@ -147,7 +147,7 @@ def test_not_reading(served):
             late.send()
         assert until(lambda: unread(late.connection)), "a reply for one that does not read"
         assert asked(other, b"pwd\n" * 9, 63) == PWD * 9, "another client meanwhile"
-        assert drive([late])[0] == (b"b %d\n%b\nok\n" % (MAX_PAYLOAD, content)) * 3, "one that reads late"
+        assert drive([late])[0] == (b"b %d\n%b\nok\n" % (MAX_LARGE_FILE, content)) * 3, "one that reads late"
     assert served.end() == (0, ""), "the server ends"
 
 

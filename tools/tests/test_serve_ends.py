@@ -8,7 +8,7 @@ import tempfile
 import pytest
 
 from lisfs.client import Locked, reply_of
-from lisfs.constants import MAX_PAYLOAD
+from lisfs.constants import MAX_LARGE_FILE
 from support import images
 from support.peers import ENDED, LIMITS, PWD, TALK, Peer, Served, asked, connected, drive, make, ran, refusing, replies_in, script, talked, written
 from support.waiting import LONG, children, not_taken, rest, stop, unread, until
@@ -73,9 +73,9 @@ def test_a_killed_program():
 @pytest.mark.parametrize("number", ENDING)
 def test_signals(number):
     """A signal ends the server in order: what is under way is replied to, and what was acknowledged is there."""
-    content = os.urandom(MAX_PAYLOAD)
+    content = os.urandom(MAX_LARGE_FILE)
     with Served(make("image"), start_new_session=True) as served:
-        assert talked(b"add large %d\n%b\n" % (MAX_PAYLOAD, content))[1] == b"ok\n", "a large file"
+        assert talked(b"add large %d\n%b\n" % (MAX_LARGE_FILE, content))[1] == b"ok\n", "a large file"
         # Each has one file, so that they meet no limit, wherever they are when it comes.
         peers = [Peer(b"add k%d 5\n%05d\n" % (k, 0) + b"".join(b"write k%d 5\n%05d\n" % (k, n) for n in range(1, 20_000))) for k in range(6)]
         late = Peer(b"cat large\n" * 9)
@@ -89,7 +89,7 @@ def test_signals(number):
         *found, (larges, is_whole) = [replies_in(got) for got in drive(peers + [late])]
         assert served.ended() == (0, ""), f"{number.name}"
         assert not os.path.exists("socket"), "the socket is gone"
-        assert is_whole and set(larges) == {b"b %d\n%b\nok\n" % (MAX_PAYLOAD, content)}, ("one that reads late", (len(larges), is_whole))
+        assert is_whole and set(larges) == {b"b %d\n%b\nok\n" % (MAX_LARGE_FILE, content)}, ("one that reads late", (len(larges), is_whole))
         assert all(whole and set(shown) == {b"ok\n"} for shown, whole in found), ("some were replied to, and whole", found)
     for k, (shown, _) in enumerate(found):
         assert ran("image", b"cat k%d\n" % k) == b"b 5\n%05d\nok\n" % (len(shown) - 1), "the last of them is there, and no later one"
@@ -126,7 +126,7 @@ def test_the_end_while_the_program_opens(image):
         assert served.end() == stuck_after(0.5), "the end while the program opens"
 
 
-@pytest.mark.parametrize("data", (b"pwd\n", b"add large %d\n%b\n" % (MAX_PAYLOAD, bytes(MAX_PAYLOAD))), ids=("a command", "a payload"))
+@pytest.mark.parametrize("data", (b"pwd\n", b"add large %d\n%b\n" % (MAX_LARGE_FILE, bytes(MAX_LARGE_FILE))), ids=("a command", "a payload"))
 def test_the_end_while_the_program_does_not_answer(image, data):
     assert ran(image, b"create whole\n") == b"ok\n", "a file"
     with Served(patience=0.5) as served:
@@ -152,7 +152,7 @@ def test_a_program_that_does_not_end(image):
 def end_beside_deaf(content, patience):
     """How a server ends that has this patience, and one client which never reads."""
     with Served(make("image"), patience=patience) as served:
-        assert talked(b"add large %d\n%b\n" % (MAX_PAYLOAD, content))[1] == b"ok\n", "a large file"
+        assert talked(b"add large %d\n%b\n" % (MAX_LARGE_FILE, content))[1] == b"ok\n", "a large file"
         deaf = Peer(b"cat large\n" * 9)
         deaf.send()
         assert until(lambda: unread(deaf.connection)), "one that never reads"
@@ -160,7 +160,7 @@ def end_beside_deaf(content, patience):
 
 
 def test_who_never_reads_is_not_waited_for_without_end():
-    content = os.urandom(MAX_PAYLOAD)
+    content = os.urandom(MAX_LARGE_FILE)
     # The server gives its program no longer than its clients, and a slow machine may need longer for that.
     for patience in (1, 20, 400):
         if (end := end_beside_deaf(content, patience)) != stuck_after(patience):
@@ -180,7 +180,7 @@ def test_a_talk_says_that_the_server_has_ended():
 
 
 def test_a_talk_says_that_not_all_was_replied_to():
-    content = os.urandom(MAX_PAYLOAD)
+    content = os.urandom(MAX_LARGE_FILE)
     with Served(make("image"), start_new_session=True) as served, written("session", b"cat x\n" * 10_000) as session:
         assert talked(b"add x 1000\n%b\n" % content[:1_000])[1] == b"ok\n", "a file"
         # Its reply has more bytes than any buffer holds, and one byte was shown.

@@ -4,4 +4,5 @@ mod Joined
 pub mod Subset
 mod OneRow
 pub mod Numbers
+mod Loads
 pub mod Laws

@@ -48,7 +48,7 @@ pub number_is : (n word : ℕ) (bit : ℕ → Bool) → word < 2 ^ n → ((i : �
 number_is n word bit small same = same_from_bits_below n word (bits_number n bit) small (number_below n bit)
     (λ i lt. same_bit (bit_at word i) (bit_at (bits_number n bit) i) (bit_at-lt word i) (bit_at-lt (bits_number n bit) i) (same i lt ∙ sym (number_bit n bit i lt)))
 
-shifted : (word by i : ℕ) → bit_at (word / 2 ^ by) i ≡ bit_at word (by + i)
+pub shifted : (word by i : ℕ) → bit_at (word / 2 ^ by) i ≡ bit_at word (by + i)
 shifted word by i = rw (pow-add 2 by i, div-div-eq-div-mul word (2 ^ by) (2 ^ i))
 
 pub byte_is : (words : List ℕ) (k : ℕ) → bit_and (get_or words (k / 8) 0 / 2 ^ (k % 8 * 8)) 255 ≡ bits_number 8 (λ i. words_bit words (8 * k + i))

@@ -173,6 +173,15 @@ impl Rows {
         words::write_bytes(self.words(row), buf);
     }
 
+    /// Whether the bytes are those of a row, as `row_bytes` writes them.
+    pub fn has_bytes(&self, row: u32, bytes: &[u8]) -> bool
+        requires row { row < length self.now.rows }
+        requires room { 8 * length bytes.now ≡ self.now.bits }
+        ensures { IsTrue result ↔ bytes.now ≡ bits_bytes (length bytes.now) (get self.now row) }
+    {
+        words::are_bytes(self.words(row), bytes)
+    }
+
     /// Eight bits of a row as a number, the first of them the lowest.
     pub fn byte(&self, row: u32, k: u32) -> u8
         requires row { row < length self.now.rows }

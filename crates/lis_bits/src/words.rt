@@ -107,6 +107,29 @@ fn write_word(words: &[u64], k: usize, buf: &mut [u8])
     }
 }
 
+// Whether eight bytes are those of a word, the lowest byte first. They are compared as one number.
+fn is_word(word: u64, bytes: &[u8]) -> bool
+    requires { length bytes.now ≡ 8 }
+    ensures { IsTrue result ↔ ((i : ℕ) → i < 8 → slice_index bytes.now i ≡ bits_number 8 (λ bit. word_bit word (8 * i + bit))) }
+{
+    word == u64::from_le_bytes([
+        bytes[0], bytes[1], bytes[2], bytes[3], bytes[4], bytes[5], bytes[6], bytes[7],
+    ])
+}
+
+// Whether the bytes are those of the words, the lowest byte of each first.
+pub(crate) fn are_bytes(words: &[u64], bytes: &[u8]) -> bool
+    requires { length bytes.now ≡ 8 * length words.now }
+    ensures { IsTrue result ↔ bytes.now ≡ bits_bytes (length bytes.now) (words_bit words.now) }
+{
+    for k in 0..words.len() {
+        if !is_word(words[k], &bytes[8 * k..8 * k + 8]) {
+            return false;
+        }
+    }
+    true
+}
+
 // A byte of the words, of which the first has the lowest bits of the first word.
 pub(crate) fn byte(words: &[u64], k: usize) -> u8
     requires { k < 8 * length words.now }

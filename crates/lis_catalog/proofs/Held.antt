@@ -12,6 +12,7 @@ use Rattle.std.proofs.lemmas.List.Sums.{sum_by-set, count_by-le-length, sum_by-c
 use Rattle.std.proofs.lemmas.Option.{slice_get-map, slice_get_within, slice_get-get_or}
 use Rattle.std.specs.Option.{option_map}
 use Rattle.lis_graph.proofs.Sets.{sorted_insert_key}
+use Rattle.lis_graph.proofs.Entries.{keys}
 use Rattle.lis_words.specs.Words.{is_file_name}
 use Rattle.lis_fields.specs.Records.{FileRecord}
 use Rattle.lis_catalog.specs.Catalog.{Filed, Catalog, slots, slot_of, rec_at, filed_cmp, with_filed, without_slot, IsCatalog}
@@ -112,13 +113,9 @@ fits_from c files records order slot rec name k seen named place within form bel
 })
 
 -- ---- the order of what is seen
-pub told_order : (records : Records) (ns : List ℕ) → map (λ (f : Filed). f.slot) (map (filed_in records) ns) ≡ ns
-told_order records [] = refl
-told_order records (n ∷ ns) = ap (λ ms. n ∷ ms) (told_order records ns)
-
 module _ (files : ℕ) (records : Records) (order : List ℕ) (c : Catalog) (seen : catalog_of files records order ≡ c) where
   pub seen_order : slots c ≡ order
-  seen_order = ap slots (sym seen) ∙ told_order records order
+  seen_order = ap slots (sym seen) ∙ keys (filed_in records) (λ (f : Filed). f.slot) (λ n. refl) order
 
   pub seen_at : (k slot : ℕ) → slice_get (slots c) k ≡ Some slot → slice_get order k ≡ Some slot
   seen_at k slot at = ap (λ ns. slice_get ns k) (sym seen_order) ∙ at

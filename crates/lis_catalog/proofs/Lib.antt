@@ -3,6 +3,4 @@ mod Places
 pub mod Slots
 pub mod Laws
 mod Held
-mod Passes
-mod Repeats
 mod Sorting

@@ -1,5 +1,5 @@
 -- The files of an image as a contract sees them: a finite map from names to slots and records.
-use Rattle.std.specs.Prelude.{◌≡◌, ℕ, ◌<◌, ◌≤◌, ◌==◌, nat_lt, not, List, length, map, filter, slice_index_or, Option, Some, None, IsTrue}
+use Rattle.std.specs.Prelude.{◌≡◌, ℕ, ◌≤◌, ◌==◌, nat_lt, not, List, length, map, filter, slice_index_or, Option, None, IsTrue}
 use Rattle.std.specs.declared.cmp.Ordering.{Ordering}
 use Rattle.std.specs.BTreeSet.{insert_key}
 use Rattle.std.specs.List.{find, list_all}
@@ -58,14 +58,3 @@ pub record IsCatalog (c : Catalog) : Type 0 where
 -- the catalog has just these records, each with its place in the list as its slot
 abbrev pub HasRecords : Catalog → List (Option FileRecord) → Type 0
 HasRecords c records = (c.files ≡ length records) × ((slot : ℕ) → rec_at c slot ≡ slice_index_or records slot None)
-
--- the record of a lower slot has the name of this slot's record too
-abbrev pub IsAgain : List (Option FileRecord) → ℕ → Type 0
-IsAgain records n =
-    (m : ℕ) × (first : FileRecord) × (again : FileRecord)
-    × (m < n) × (slice_index_or records m None ≡ Some first) × (slice_index_or records n None ≡ Some again) × (first.name ≡ again.name)
-
--- and it is the first such slot
-pub record IsFirstAgain (records : List (Option FileRecord)) (n : ℕ) : Type 0 where
-  pub again : IsAgain records n
-  pub first : (m : ℕ) → m < n → IsAgain records m → ⊥

@@ -1,10 +1,7 @@
 -- How a catalog is held. No public clause cites this module.
-use Rattle.std.specs.Prelude.{◌≡◌, ℕ, zero, suc, ◌+◌, ◌<◌, ◌≤◌, min, ◌==◌, if◌then◌else◌, Bool, Option, None, Some, is_some, List, [], ◌∷◌, length, map, count_by, slice_index_or, unwrap_or}
-use Rattle.std.specs.declared.cmp.Ordering.{Ordering}
+use Rattle.std.specs.Prelude.{◌≡◌, ℕ, zero, suc, ◌≤◌, ◌==◌, Bool, Option, None, is_some, List, [], ◌∷◌, length, map, count_by, slice_index_or, unwrap_or}
 use Rattle.std.specs.declared.cmp.Ordering.TheVariants.{Less, Equal, Greater}
 use Rattle.std.specs.List.{list_any}
-use Rattle.std.specs.List.Sorted.{IsSortedBy}
-use Rattle.std.specs.Ordering.{is_lt, nat_cmp, ordering_then}
 use Rattle.lis_limits.specs.declared.TheConstants.{MAX_FILES}
 use Rattle.lis_words.specs.Words.{word_cmp}
 use Rattle.lis_fields.specs.Records.{FileRecord}
@@ -62,35 +59,3 @@ PlaceFor name zero [] = Unit {0}
 PlaceFor name zero (f ∷ fs) = word_cmp name f.rec.name ≡ Less
 PlaceFor name (suc n) [] = ⊥
 PlaceFor name (suc n) (f ∷ fs) = (word_cmp name f.rec.name ≡ Greater) × PlaceFor name n fs
-
--- what the parts keep before they are sorted: the order is any order of the slots that have a record
-pub record IsUnsorted (records : Records) (order : List ℕ) (room : ℕ) : Type 0 where
-  pub limit : length records ≤ MAX_FILES
-  -- each slot that has a record is once in the order
-  pub once : (n : ℕ) → count_by (λ m. m == n) order ≡ (if is_some (slice_index_or records n None) then 1 else 0)
-  pub counted : count_by is_some records ≡ length order
-  pub has_room : length records ≤ room
-
--- compares two slots by their names, and by themselves if they have the same name
-abbrev pub slot_cmp : Records → ℕ → ℕ → Ordering
-slot_cmp records m n = ordering_then (word_cmp (name_in records m) (name_in records n)) (nat_cmp m n)
-
--- the order is sorted
-abbrev pub IsOrdered : Records → List ℕ → Type 0
-IsOrdered records order = IsSortedBy (λ m n. is_lt (slot_cmp records m n)) order
-
--- the lower of two slots; the first one may be missing
-abbrev pub lower : Option ℕ → ℕ → ℕ
-lower None n = n
-lower (Some m) n = min m n
-
--- the slots at this index and at the next one have the same name
-abbrev pub IsRepeat : Records → List ℕ → ℕ → Type 0
-IsRepeat records order k = name_in records (slice_index_or order (k + 1) 0) ≡ name_in records (slice_index_or order k 0)
-
--- among the first `count` slots of the order, the least one that has the same name as the slot before it
-abbrev pub IsLeastRepeat : Records → List ℕ → ℕ → Option ℕ → Type 0
-IsLeastRepeat records order count None = (k : ℕ) → k + 1 < count → IsRepeat records order k → ⊥
-IsLeastRepeat records order count (Some n) =
-    ((k : ℕ) × (k + 1 < count) × IsRepeat records order k × (slice_index_or order (k + 1) 0 ≡ n))
-    × ((k : ℕ) → k + 1 < count → IsRepeat records order k → n ≤ slice_index_or order (k + 1) 0)

@@ -1,8 +1,11 @@
 ghost use Rattle.std.specs.Prelude.{◌≡◌, ℕ, ◌<◌, ◌≤◌, None, Some, is_some, length, replicate, slice_index_or, slice_set, vec_capacity, IsTrue, IfOk, IfErr};
-ghost use Rattle.lis_words.specs.Words.{is_file_name};
 ghost use Rattle.lis_limits.specs.declared.TheConstants.{MAX_FILES};
-ghost use Rattle.lis_catalog.specs.Catalog.{HasRecords, IsFirstAgain};
-ghost use Rattle.lis_catalog.specs.Inside.{IsUnsorted, IsOrdered, name_in, slot_cmp, lower, IsLeastRepeat};
+ghost use Rattle.lis_graph.specs.Again.{IsFirstAgain};
+ghost use Rattle.lis_graph.specs.Inside.{IsUnsorted, named_cmp, RisesByName, IsLeastRepeat};
+ghost use Rattle.lis_words.specs.Words.{is_file_name, word_cmp};
+ghost use Rattle.lis_fields.specs.Records.{FileRecord};
+ghost use Rattle.lis_catalog.specs.Catalog.{HasRecords};
+ghost use Rattle.lis_catalog.specs.Inside.{name_in};
 
 use crate::catalog::{Catalog, all_free, name_at};
 use lis_fields::FileRec;
@@ -25,16 +28,17 @@ impl Model for Unsorted {
 
     ghost Value = { List (Option FileRecord) };
 
-    ghost use Rattle.lis_catalog.specs.Inside.{IsUnsorted};
+    ghost use Rattle.lis_limits.specs.declared.TheConstants.{MAX_FILES};
+    ghost use Rattle.lis_graph.specs.Inside.{IsUnsorted};
 
     ghost view = { λ u. u.records.items };
 
-    ghost invariant = { λ u. IsUnsorted u.records.items u.order.items (vec_capacity u.order) };
+    ghost invariant = { λ u. IsUnsorted MAX_FILES u.records.items u.order.items (vec_capacity u.order) };
 }
 
 // Compares two slots by their names, and by themselves if they have the same name.
 fn compare(records: &[Option<FileRec>], slot: u32, other: u32) -> Ordering
-    ensures { result ≡ slot_cmp records.now slot other }
+    ensures { result ≡ named_cmp word_cmp (name_in records.now) slot other }
 {
     name_at(records, slot)
         .cmp(name_at(records, other))
@@ -43,27 +47,17 @@ fn compare(records: &[Option<FileRec>], slot: u32, other: u32) -> Ordering
 
 // Sorts slots by their names, and slots of the same name by themselves.
 fn put_in_order(records: &[Option<FileRec>], order: &mut Vec<u32>)
-    requires { IsUnsorted records.now order.old.items (vec_capacity order.old) }
-    ensures held { IsUnsorted records.now order.new.items (vec_capacity order.new) }
-    ensures ordered { IsOrdered records.now order.new.items }
+    requires { IsUnsorted MAX_FILES records.now order.old.items (vec_capacity order.old) }
+    ensures held { IsUnsorted MAX_FILES records.now order.new.items (vec_capacity order.new) }
+    ensures ordered { RisesByName word_cmp (name_in records.now) order.new.items }
 {
     order.sort_unstable_by(|slot, other| compare(records, *slot, *other));
-}
-
-// The lower of two slots; the first one may be missing.
-fn lower(found: Option<u32>, slot: u32) -> u32
-    ensures { result ≡ lower found slot }
-{
-    match found {
-        Some(least) => least.min(slot),
-        None => slot,
-    }
 }
 
 // The least slot that has the same name as the slot before it in the order.
 fn first_again(records: &[Option<FileRec>], order: &[u32]) -> Option<u32>
     requires { (k : ℕ) → k < length order.now → IsTrue (is_some (slice_index_or records.now (slice_index_or order.now k 0) None)) }
-    ensures first { IsLeastRepeat records.now order.now (length order.now) result }
+    ensures first { IsLeastRepeat (name_in records.now) order.now (length order.now) result }
     ensures forms { (k : ℕ) → k < length order.now → IsTrue (is_file_name (name_in records.now (slice_index_or order.now k 0))) }
 {
     let mut first = None;
@@ -71,7 +65,7 @@ fn first_again(records: &[Option<FileRec>], order: &[u32]) -> Option<u32>
     for slot in order {
         let name = name_at(records, *slot);
         if name == before {
-            first = Some(lower(first, *slot));
+            first = Some(first.unwrap_or(*slot).min(*slot));
         }
         before = name;
     }
@@ -105,7 +99,7 @@ impl Unsorted {
     /// The catalog of these records, or the first slot whose record has a name of a lower slot. It sorts once, and allocates nothing.
     pub fn sort(self) -> Result<Catalog, u32>
         ensures sorted { IfOk result (λ c. HasRecords c self) }
-        ensures again { IfErr result (λ n. IsFirstAgain self n) }
+        ensures again { IfErr result (λ n. IsFirstAgain (λ (rec : FileRecord). rec.name) self n) }
     {
         let Unsorted { records, mut order } = self;
         put_in_order(&records, &mut order);

@@ -8,13 +8,11 @@ use Rattle.std.proofs.lemmas.List.Folds.{list_any-append}
 use Rattle.std.proofs.lemmas.Map.Views.{any-filter_same}
 use Rattle.std.proofs.lemmas.Slice.Eq.{bytes_eq-Decides}
 use Rattle.lis_words.specs.Words.{same_word, has_word}
+use Rattle.lis_words.proofs.Bytes.{some_bytes}
 use Rattle.lis_transducers.specs.Tokens.{is_between}
 use Rattle.lis_views.specs.Truth.{line_kinds, is_short, short_runs, with_head, line_words}
 use Rattle.lis_cuts.specs.Words.{has_value}
 use Rattle.lis_words.specs.Bytes.{is_some_bytes}
-
-same : (xs ys : List ℕ) → same_word xs ys ≡ true → xs ≡ ys
-same xs ys = (bytes_eq-Decides xs ys).0
 
 -- ---- words with a head
 head_value : (head : List ℕ) → ((v value : List ℕ) → same_word (head ++ v) (head ++ value) ≡ same_word v value) → same_word head (head ++ []) ≡ true
@@ -48,12 +46,12 @@ or_false false = refl
 -- a word that begins with the head
 pub behind_head : (head word rest : List ℕ) → pointwise nat_eq (take (length head) word) head ≡ true → rest ≡ drop (length head) word → word ≡ head ++ rest
 behind_head head word rest begins is =
-    sym (take-append-drop (length head) word) ∙ ap (λ xs. xs ++ drop (length head) word) (same (take (length head) word) head begins) ∙ ap (λ xs. head ++ xs) (sym is)
+    sym (take-append-drop (length head) word) ∙ ap (λ xs. xs ++ drop (length head) word) ((bytes_eq-Decides (take (length head) word) head).0 begins) ∙ ap (λ xs. head ++ xs) (sym is)
 
 -- a word that does not begin with it
 not_behind : (head word v : List ℕ) → pointwise nat_eq (take (length head) word) head ≡ false → same_word (head ++ v) word ≡ false
 not_behind head word v other = false_from_ne_true _ (λ e.
-    let is : head ++ v ≡ word = same (head ++ v) word e in
+    let is : head ++ v ≡ word = (bytes_eq-Decides (head ++ v) word).0 e in
     let front : take (length head) word ≡ head = ap (take (length head)) (sym is) ∙ front_of head v in
     let yes : pointwise nat_eq (take (length head) word) head ≡ true = (bytes_eq-Decides (take (length head) word) head).1 front in
     absurd (cc yes))
@@ -106,15 +104,11 @@ value_alone [] value some = refl
 value_alone (run ∷ runs) [] some = absurd (omega arith)
 value_alone (run ∷ runs) (b ∷ value) some = refl
 
-some_is : (value : List ℕ) → 0 < length value → is_some_bytes value ≡ true
-some_is [] some = absurd (omega arith)
-some_is (b ∷ value) some = refl
-
 kept_by : (short : Bool) (runs : List (List ℕ)) (value : List ℕ) → 0 < length value → is_short value ≡ short
     → list_any (λ w. same_word w value) (filter is_short (filter is_some_bytes runs)) ≡ (short && list_any (λ w. same_word w value) runs)
 kept_by short runs value some is =
-    any-filter_same (λ w. same_word w value) is_short short (λ w e. ap is_short (same w value e) ∙ is) (filter is_some_bytes runs)
-    ∙ ap (λ t. short && t) (any-filter_same (λ w. same_word w value) is_some_bytes true (λ w e. ap is_some_bytes (same w value e) ∙ some_is value some) runs)
+    any-filter_same (λ w. same_word w value) is_short short (λ w e. ap is_short ((bytes_eq-Decides w value).0 e) ∙ is) (filter is_some_bytes runs)
+    ∙ ap (λ t. short && t) (any-filter_same (λ w. same_word w value) is_some_bytes true (λ w e. ap is_some_bytes ((bytes_eq-Decides w value).0 e) ∙ some_bytes value some) runs)
 
 -- a run that is too long makes none
 pub long_run : (text value : List ℕ) → 55 < length value → has_value (short_runs text) value ≡ false

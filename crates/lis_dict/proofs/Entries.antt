@@ -9,11 +9,11 @@ use Rattle.std.specs.List.{list_any}
 use Rattle.std.proofs.lemmas.Bool.{and_parts, and_from, eq-eqb, eqb-true}
 use Rattle.std.proofs.lemmas.Cmp.{nat_list_cmp_total}
 use Rattle.lis_graph.specs.Graph.{is_rising}
-use Rattle.lis_graph.proofs.Members.{Among, among_filter, among_insert_key, among_map, map_among, among_from_any, any_from_among}
+use Rattle.lis_graph.proofs.Members.{Among, among_filter, among_insert_key, among_map, map_among, all_among, all_from, among_from_any, any_from_among}
+use Rattle.lis_graph.proofs.Sets.{less_from}
 use Rattle.lis_words.specs.Words.{word_cmp}
 use Rattle.lis_model.specs.Sets.{are_distinct}
 use Rattle.lis_dict.specs.Dict.{entry_cmp}
-use Rattle.lis_dict.proofs.Finds.{all_among, all_from}
 
 abbrev pub DictEntry : Type 0
 DictEntry = List ℕ × ℕ
@@ -38,11 +38,6 @@ Apart [] = Unit {0}
 Apart (e ∷ es) = ((x : DictEntry) → Among es x → x.1 ≡ e.1 → ⊥) × Apart es
 
 -- ---- the tests
-less_from : (r : Ordering) → is_lt r ≡ true → r ≡ Less
-less_from Less h = refl
-less_from Equal h = absurd cc
-less_from Greater h = absurd cc
-
 pub ordered_from_rising : (es : List DictEntry) → is_rising word_cmp (map (λ e. e.0) es) ≡ true → Ordered es
 ordered_from_rising [] h = tt
 ordered_from_rising (e ∷ es) h =

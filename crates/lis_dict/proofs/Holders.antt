@@ -7,12 +7,12 @@ use Rattle.std.proofs.lemmas.List.{length-map, get_or-map, map-append, take-map,
 use Rattle.std.proofs.lemmas.List.Edits.{length-insert, length-remove}
 use Rattle.std.proofs.lemmas.List.Sums.{sum_by-cons, sum_by-set, count_by-le-length}
 use Rattle.std.proofs.lemmas.Option.{slice_get-map, slice_get_within, get_or_from_slice_get}
-use Rattle.lis_graph.proofs.Members.{Among, among_filter, map_among}
+use Rattle.lis_graph.proofs.Members.{Among, among_at, among_filter, map_among}
 use Rattle.lis_words.specs.Words.{is_property}
 use Rattle.lis_dict.specs.Dict.{Dict, IsDict, number_of, word_of, with_entry, without_word}
 use Rattle.lis_dict.specs.Inside.{Holders, word_in, entry_in, dict_of, IsSoundDict}
 use Rattle.lis_dict.proofs.Entries.{DictEntry, ordered_from_rising}
-use Rattle.lis_dict.proofs.Places.{IsGap, among_at, insert_gap, is_other, remove_found, same_true}
+use Rattle.lis_dict.proofs.Places.{IsGap, insert_gap, is_other, remove_found, same_true}
 use Rattle.lis_dict.proofs.Laws.{free_number, word_from_number, number_below, number_found, number_absent, word_of-with_entry, length-with_entry, kept_with_entry, word_of-without_word, length-without_word, kept_without_word}
 
 -- ---- one holder is written over
@@ -60,7 +60,7 @@ module _ (props room : ℕ) (holders : Holders) (order : List ℕ) (sound : IsSo
   as_long : length es ≡ length order
   as_long = length-map order (entry_in holders)
 
-  -- ---- what the order tells
+  -- ---- what is at a place in the order
   module _ (k n : ℕ) (at : slice_get order k ≡ Some n) where
     pub entry_there : slice_get es k ≡ Some (entry_in holders n)
     entry_there = slice_get-map (entry_in holders) order k ∙ ap (option_map (entry_in holders)) at

@@ -7,7 +7,7 @@ use Rattle.std.proofs.lemmas.List.Sums.{position_or_len_is}
 use Rattle.lis_words.specs.Words.{word_cmp}
 use Rattle.lis_dict.specs.Dict.{Dict, IsDict, word_of, place_of}
 use Rattle.lis_dict.proofs.Entries.{DictEntry, Ordered, ordered_from_rising, apart_from_distinct, below_none, unique_word, unique_number}
-use Rattle.lis_dict.proofs.Places.{among_at}
+use Rattle.lis_graph.proofs.Members.{among_at}
 use Rattle.lis_dict.proofs.Laws.{among_from_word, free_number}
 
 rises : (es : List DictEntry) → Ordered es → (i j : ℕ) (none : DictEntry) → i < j → j < length es → word_cmp (get_or es i none).0 (get_or es j none).0 ≡ Less

@@ -6,12 +6,13 @@ use Rattle.std.specs.BTreeSet.{insert_key}
 use Rattle.std.specs.List.{find, HoldsAt}
 use Rattle.std.proofs.lemmas.Bool.{eq-eqb, eqb-true, ltb-true, lt-ltb}
 use Rattle.std.proofs.lemmas.Map.Lookups.{exact_bytes}
-use Rattle.lis_graph.proofs.Members.{Among, among_filter, among_insert_key, among_map, map_among}
+use Rattle.lis_graph.proofs.Members.{Among, among_at, all_among, all_from, find_among, find_none, none_found, among_filter, among_insert_key, among_map, map_among}
+use Rattle.lis_graph.proofs.Filters.{filter_all}
 use Rattle.lis_words.specs.Words.{is_property, same_word}
 use Rattle.lis_dict.specs.Dict.{Dict, IsDict, words, number_of, word_of, entry_cmp, with_entry, without_word}
-use Rattle.lis_dict.proofs.Finds.{all_among, all_from, find_among, find_none, none_found, find_filter, find_filter_none, find_insert_key, length-insert_key}
+use Rattle.lis_dict.proofs.Finds.{find_filter, find_filter_none, find_insert_key, length-insert_key}
 use Rattle.lis_dict.proofs.Entries.{DictEntry, Ordered, Apart, ordered_from_rising, rising_from_ordered, apart_from_distinct, distinct_from_apart, unique_word, unique_number, ordered_insert, apart_insert, ordered_filter, apart_filter}
-use Rattle.lis_dict.proofs.Places.{same_true, same_from, same_false, is_other, other_true, filter_all, one_filtered, among_at, IsGap, gap_absent}
+use Rattle.lis_dict.proofs.Places.{same_true, same_from, same_false, is_other, other_true, one_filtered, IsGap, gap_absent}
 
 abbrev has_this : List ℕ → DictEntry → Bool
 has_this word e = same_word e.0 word

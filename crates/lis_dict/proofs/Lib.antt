@@ -5,6 +5,4 @@ mod Holders
 mod Indexes
 mod Signs
 pub mod Laws
-mod Repeats
-mod Passes
 mod Sorting

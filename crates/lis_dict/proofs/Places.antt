@@ -11,7 +11,8 @@ use Rattle.std.proofs.lemmas.Bool.{cases_lt}
 use Rattle.std.proofs.lemmas.List.{get_or-map, length-map}
 use Rattle.std.proofs.lemmas.Slice.Eq.{bytes_eq-Decides}
 use Rattle.std.proofs.lemmas.Map.Lookups.{exact_bytes}
-use Rattle.lis_graph.proofs.Members.{Among, contains_from_among}
+use Rattle.lis_graph.proofs.Filters.{filter_all}
+use Rattle.lis_graph.proofs.Members.{Among, among_at, contains_from_among}
 use Rattle.lis_words.specs.Words.{word_cmp, same_word}
 use Rattle.lis_dict.specs.Dict.{entry_cmp}
 use Rattle.lis_dict.proofs.Entries.{DictEntry, Ordered, word_order, below_none, turned}
@@ -28,11 +29,6 @@ same_false a b differ = by (same_word a b) refl
     by : (t : Bool) → same_word a b ≡ t → t ≡ false
     by true e = absurd (differ (same_from a b e))
     by false e = refl
-
-pub among_at : {K : Type 0} (xs : List K) (k : ℕ) (d : K) → k < length xs → Among xs (get_or xs k d)
-among_at [] k d lt = absurd (omega arith)
-among_at (x ∷ xs) zero d lt = inl refl
-among_at (x ∷ xs) (suc k) d lt = inr (among_at xs k d (omega (arith, lt)))
 
 -- ---- what a search finds
 rank_le : (r s : Ordering) → (s ≡ Less → r ≡ Less) → (s ≡ Equal → r ≡ Less) → ordering_index r ≤ ordering_index s
@@ -85,14 +81,6 @@ module _ (entry : ℕ → DictEntry) (order : List ℕ) where
       (before, behind)
 
 -- ---- the entry of the word
-pub filter_all : {K : Type 0} (keep : K → Bool) (xs : List K) → ((x : K) → Among xs x → keep x ≡ true) → filter keep xs ≡ xs
-filter_all keep [] each = refl
-filter_all keep (x ∷ xs) each = by (keep x) (each x (inl refl)) (filter_all keep xs (λ y m. each y (inr m)))
-  where
-    by : (b : Bool) → b ≡ true → filter keep xs ≡ xs → cond b (x ∷ filter keep xs) (filter keep xs) ≡ x ∷ xs
-    by true e rest = ap (λ ys. x ∷ ys) rest
-    by false e rest = absurd cc
-
 abbrev pub is_other : List ℕ → DictEntry → Bool
 is_other word e = not (same_word e.0 word)
 

@@ -58,15 +58,6 @@ pub record IsDict (d : Dict) : Type 0 where
 abbrev pub HasWords : Dict → List (Option (List ℕ)) → Type 0
 HasWords d held = (d.props ≡ length held) × ((n : ℕ) → word_of d n ≡ slice_index_or held n None)
 
--- a lower number has the word of this one too
-abbrev pub IsAgain : List (Option (List ℕ)) → ℕ → Type 0
-IsAgain held n = (m : ℕ) × (word : List ℕ) × (m < n) × (slice_index_or held m None ≡ Some word) × (slice_index_or held n None ≡ Some word)
-
--- and it is the first such number
-pub record IsFirstAgain (held : List (Option (List ℕ))) (n : ℕ) : Type 0 where
-  pub again : IsAgain held n
-  pub first : (m : ℕ) → m < n → IsAgain held m → ⊥
-
 -- a word is added: one that is there keeps its number, a new one gets a free number, and it is refused where no number is free
 abbrev pub Adds : {E : Type 0} → Dict → List ℕ → Dict → Result ℕ E → Type 0
 Adds old word new (Ok n) =

@@ -69,7 +69,7 @@ impl Dict {
         }
     }
 
-    /// No words yet, with room for so many.
+    /// No words yet, with room for `props` words.
     pub fn new(alloc: Global, props: u32) -> Result<Dict, AllocError>
         requires { props ≤ MAX_PROPS }
         ensures { IfOk result (λ d. d ≡ record { props = props; entries = [] }) }

@@ -1,8 +1,10 @@
-ghost use Rattle.std.specs.Prelude.{◌≡◌, ℕ, ◌<◌, ◌≤◌, None, Some, is_some, length, replicate, slice_index_or, slice_set, vec_capacity, IsTrue, IfOk, IfErr};
-ghost use Rattle.lis_words.specs.Words.{is_property};
+ghost use Rattle.std.specs.Prelude.{◌≡◌, ℕ, ◌<◌, ◌≤◌, None, Some, is_some, length, replicate, slice_index_or, slice_set, vec_capacity, List, IsTrue, IfOk, IfErr};
 ghost use Rattle.lis_limits.specs.declared.TheConstants.{MAX_PROPS};
-ghost use Rattle.lis_dict.specs.Dict.{HasWords, IsFirstAgain};
-ghost use Rattle.lis_dict.specs.Inside.{IsHeld, RisesByWord, word_in, number_cmp, lower, IsLeastRepeat};
+ghost use Rattle.lis_graph.specs.Again.{IsFirstAgain};
+ghost use Rattle.lis_graph.specs.Inside.{IsUnsorted, named_cmp, RisesByName, IsLeastRepeat};
+ghost use Rattle.lis_words.specs.Words.{is_property, word_cmp};
+ghost use Rattle.lis_dict.specs.Dict.{HasWords};
+ghost use Rattle.lis_dict.specs.Inside.{word_in};
 
 use crate::dict::{Dict, bytes_at};
 use lis_words::Word;
@@ -24,16 +26,17 @@ impl Model for Unsorted {
 
     ghost Value = { List (Option (List ℕ)) };
 
-    ghost use Rattle.lis_dict.specs.Inside.{IsHeld};
+    ghost use Rattle.lis_limits.specs.declared.TheConstants.{MAX_PROPS};
+    ghost use Rattle.lis_graph.specs.Inside.{IsUnsorted};
 
     ghost view = { λ u. u.holders.items };
 
-    ghost invariant = { λ u. IsHeld u.holders.items u.order.items (vec_capacity u.order) };
+    ghost invariant = { λ u. IsUnsorted MAX_PROPS u.holders.items u.order.items (vec_capacity u.order) };
 }
 
 // Compares two numbers by their words, and by themselves if they have the same word.
 fn compare(holders: &[Option<Word>], number: u32, other: u32) -> Ordering
-    ensures { result ≡ number_cmp holders.now number other }
+    ensures { result ≡ named_cmp word_cmp (word_in holders.now) number other }
 {
     bytes_at(holders, number)
         .cmp(bytes_at(holders, other))
@@ -42,27 +45,17 @@ fn compare(holders: &[Option<Word>], number: u32, other: u32) -> Ordering
 
 // Sorts numbers by their words, and numbers of the same word by themselves.
 fn put_in_order(holders: &[Option<Word>], order: &mut Vec<u32>)
-    requires { IsHeld holders.now order.old.items (vec_capacity order.old) }
-    ensures held { IsHeld holders.now order.new.items (vec_capacity order.new) }
-    ensures ordered { RisesByWord holders.now order.new.items }
+    requires { IsUnsorted MAX_PROPS holders.now order.old.items (vec_capacity order.old) }
+    ensures held { IsUnsorted MAX_PROPS holders.now order.new.items (vec_capacity order.new) }
+    ensures ordered { RisesByName word_cmp (word_in holders.now) order.new.items }
 {
     order.sort_unstable_by(|number, other| compare(holders, *number, *other));
-}
-
-// The lower of two numbers; the first one may be missing.
-fn lower(found: Option<u32>, number: u32) -> u32
-    ensures { result ≡ lower found number }
-{
-    match found {
-        Some(least) => least.min(number),
-        None => number,
-    }
 }
 
 // The least number that has the same word as the number before it in the order.
 fn first_again(holders: &[Option<Word>], order: &[u32]) -> Option<u32>
     requires { (k : ℕ) → k < length order.now → IsTrue (is_some (slice_index_or holders.now (slice_index_or order.now k 0) None)) }
-    ensures first { IsLeastRepeat holders.now order.now (length order.now) result }
+    ensures first { IsLeastRepeat (word_in holders.now) order.now (length order.now) result }
     ensures forms { (k : ℕ) → k < length order.now → IsTrue (is_property (word_in holders.now (slice_index_or order.now k 0))) }
 {
     let mut first = None;
@@ -70,7 +63,7 @@ fn first_again(holders: &[Option<Word>], order: &[u32]) -> Option<u32>
     for number in order {
         let bytes = bytes_at(holders, *number);
         if bytes == before {
-            first = Some(lower(first, *number));
+            first = Some(first.unwrap_or(*number).min(*number));
         }
         before = bytes;
     }
@@ -104,7 +97,7 @@ impl Unsorted {
     /// The dictionary of these words, or the first number whose word a lower number has too. It sorts once, and takes no memory.
     pub fn sort(self) -> Result<Dict, u32>
         ensures sorted { IfOk result (λ d. HasWords d self) }
-        ensures again { IfErr result (λ n. IsFirstAgain self n) }
+        ensures again { IfErr result (λ n. IsFirstAgain (λ (word : List ℕ). word) self n) }
     {
         let Unsorted { holders, mut order } = self;
         put_in_order(&holders, &mut order);

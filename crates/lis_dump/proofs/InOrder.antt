@@ -1,6 +1,5 @@
 -- Axioms in order: those of each word, word by word.
 use Rattle.std.proofs.Common.{◌≡◌, ◌⊎◌, ℕ, ◌<◌, Bool, true, false, cond, not, ◌&&◌, Option, Some, None, List, [], ◌∷◌, ◌++◌, map, filter, refl, sym, ap, ap₂, ◌∙◌, inl, inr, length, arith}
-use Rattle.std.specs.declared.cmp.Ordering.{Ordering}
 use Rattle.std.specs.declared.cmp.Ordering.TheVariants.{Less, Equal, Greater}
 use Rattle.std.specs.Cmp.{tied_itself}
 use Rattle.std.specs.List.{find, flat_map, list_all}
@@ -11,15 +10,14 @@ use Rattle.std.proofs.lemmas.List.Folds.{flat_map-map}
 use Rattle.std.proofs.lemmas.Option.{same_Some}
 use Rattle.lis_graph.specs.Graph.{is_rising}
 use Rattle.lis_graph.proofs.Filters.{filter_same, filter_twice}
-use Rattle.lis_graph.proofs.Members.{Among, among_filter, among_map}
-use Rattle.lis_graph.proofs.Sets.{sorted_nil, sorted_with_more}
+use Rattle.lis_graph.proofs.Members.{Among, find_among, among_filter, among_map}
+use Rattle.lis_graph.proofs.Sets.{less_from, sorted_nil, sorted_with_more}
 use Rattle.lis_ports.specs.Meaning.{Meaning}
 use Rattle.lis_dict.specs.Dict.{words}
 use Rattle.lis_words.specs.Words.{word_cmp, same_word}
 use Rattle.lis_model.specs.State.{State, pair_cmp}
 use Rattle.lis_laws.proofs.Counts.{all_among, all_from, rising_filter, rising_from_sorted}
 use Rattle.lis_laws.proofs.Members.{word_order, pair_order, same_word_decides}
-use Rattle.lis_laws.proofs.Routes.{find_among}
 use Rattle.lis_kept.specs.Behind.{rights_of, is_behind}
 use Rattle.lis_kept.specs.Metadata.{Metadata}
 use Rattle.lis_kept.specs.Sound.{AreSound}
@@ -30,15 +28,10 @@ use Rattle.lis_store.specs.Stored.{Stored, IsSound, StoreFits}
 use Rattle.lis_session.specs.Item.{FitsAt}
 use Rattle.lis_dump.specs.Showing.{axiom_lines, entry_axioms}
 
-less_from_test : (r : Ordering) → is_lt r ≡ true → r ≡ Less
-less_from_test Less is = refl
-less_from_test Equal is = absurd cc
-less_from_test Greater is = absurd cc
-
 -- ---- words after another
 behind_behind : (last : Option (List ℕ)) (word next : List ℕ) → is_behind last word ≡ true → word_cmp word next ≡ Less → is_behind last next ≡ true
 behind_behind None word next is less = refl
-behind_behind (Some first) word next is less = ap is_lt (word_order.trans first word next (less_from_test (word_cmp first word) is) less)
+behind_behind (Some first) word next is less = ap is_lt (word_order.trans first word next (less_from (word_cmp first word) is) less)
 
 not_behind_itself : (word : List ℕ) → is_behind (Some word) word ≡ false
 not_behind_itself word = ap is_lt (tied_itself word_order word)
@@ -65,7 +58,7 @@ first_behind last (x ∷ words) word rising is = by (is_behind last x) refl is (
     parts = and_parts _ _ rising
 
     below : (y : List ℕ) → Among words y → word_cmp x y ≡ Less
-    below y m = less_from_test (word_cmp x y) (all_among (λ z. is_lt (word_cmp x z)) words y parts.0 m)
+    below y m = less_from (word_cmp x y) (all_among (λ z. is_lt (word_cmp x z)) words y parts.0 m)
 
     here : is_behind last x ≡ true → x ≡ word → x ∷ filter (is_behind last) words ≡ word ∷ filter (is_behind (Some word)) (x ∷ words)
     here behind same =
@@ -177,7 +170,7 @@ module _ (left : List ℕ) where
 
       none : is_from left pair ≡ false → filter (is_from left) axioms ≡ []
       none differs = none_from axioms (λ p m. false_from_ne_true (is_from left p) (λ same.
-          let less = less_from_test (pair_cmp pair p) (all_among (λ y. is_lt (pair_cmp pair y)) axioms p parts.0 m) in
+          let less = less_from (pair_cmp pair p) (all_among (λ y. is_lt (pair_cmp pair y)) axioms p parts.0 m) in
           let more : word_cmp pair.0 p.0 ≡ Greater = ap (word_cmp pair.0) ((same_word_decides p.0 left).0 same) ∙ (word_order.antisymm pair.0 left ∙ ap ordering_reverse (above differs)) in
           let turned : pair_cmp pair p ≡ Greater = ap (λ r. ordering_then r (word_cmp pair.1 p.1)) more in
           cc))
@@ -230,7 +223,7 @@ by_words (word ∷ words) axioms words_rise rising named =
     others = filter (is_other word) axioms
 
     below : (w : List ℕ) → Among words w → word_cmp word w ≡ Less
-    below w m = less_from_test (word_cmp word w) (all_among (λ y. is_lt (word_cmp word y)) words w (and_parts _ _ words_rise).0 m)
+    below w m = less_from (word_cmp word w) (all_among (λ y. is_lt (word_cmp word y)) words w (and_parts _ _ words_rise).0 m)
 
     least : (p : List ℕ × List ℕ) → Among (word ∷ words) p.0 → (word ≡ p.0) ⊎ (word_cmp word p.0 ≡ Less)
     least p (inl same) = inl same

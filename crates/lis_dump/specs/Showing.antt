@@ -24,12 +24,13 @@ axiom_lines axioms left = flat_map (λ right. axiom_line (left, right)) (rights_
 abbrev pub entry_axioms : Metadata → List ℕ × ℕ → List ℕ
 entry_axioms k entry = axiom_lines (axioms_of k) entry.0
 
--- what waits on a page: nothing after a fault, which ends the dump
+-- what waits on the page: nothing after a fault, which ends the dump
 abbrev pub waiting : Result (Unit {0}) End → List ℕ → List ℕ
 waiting (Ok done) page = page
 waiting (Err end) page = []
 
--- These bytes were on the page, and a text of the state came after them. Of both together one part was shown, and the rest is on the page now.
+-- These bytes were on the page, and a text of the state came after them. Of both together one part was shown, and the rest is on the page now;
+-- or a fault came, and a prefix of both was shown.
 pub record Pages (k : Stored) (text : State → List ℕ) (before after : List ℕ) (old new : Meaning) (result : Result (Unit {0}) End) : Type 0 where
   pub said : State → List ℕ
   pub shows : Shows k said old new result

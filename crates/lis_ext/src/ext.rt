@@ -232,4 +232,13 @@ impl Ext {
     {
         self.rows.row_bytes(prop, buf);
     }
+
+    /// Whether the bytes are those of the files that have a number, as `row_bytes` writes them.
+    pub fn has_row_bytes(&self, prop: u32, bytes: &[u8]) -> bool
+        requires prop { prop < self.now.props }
+        requires room { 8 * length bytes.now ≡ length self.now.sets }
+        ensures { IsTrue result ↔ bytes.now ≡ bits_bytes (length bytes.now) (has self.now prop) }
+    {
+        self.rows.has_bytes(prop, bytes)
+    }
 }

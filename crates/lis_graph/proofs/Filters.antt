@@ -13,6 +13,11 @@ module _ {K : Type 0} where
   any_same f g [] same = refl
   any_same f g (x ∷ xs) same = rw (same x (inl refl), any_same f g xs (λ y m. same y (inr m)))
 
+  -- a test that all members pass
+  pub filter_all : (keep : K → Bool) (xs : List K) → ((x : K) → Among xs x → keep x ≡ true) → filter keep xs ≡ xs
+  filter_all keep [] each = refl
+  filter_all keep (x ∷ xs) each = rw (each x (inl refl)) (ap (λ ys. x ∷ ys) (filter_all keep xs (λ y m. each y (inr m))))
+
   -- one test after the other
   pub filter_twice : (f g : K → Bool) (xs : List K) → filter g (filter f xs) ≡ filter (λ x. f x && g x) xs
   filter_twice f g [] = refl

@@ -4,3 +4,6 @@ pub mod Graph
 pub mod Pairs
 pub mod Ranges
 pub mod Filters
+pub mod Repeats
+pub mod Passes
+pub mod Entries

@@ -1,11 +1,13 @@
 -- The members of lists: `Among` is by cases, and `Contains` by an index. A lemma `among_F` says what a member of F is, and `F_among` makes
 -- one.
-use Rattle.std.proofs.Common.{◌≡◌, ◌⊎◌, ℕ, zero, suc, ◌<◌, Bool, true, false, cond, ◌||◌, List, [], ◌∷◌, ◌++◌, length, get_or, map, filter, Decides, refl, sym, ap, subst, ◌∙◌, inl, inr, arith}
+use Rattle.std.proofs.Common.{◌≡◌, ◌⊎◌, ℕ, zero, suc, ◌<◌, Bool, true, false, cond, ◌||◌, Some, None, List, [], ◌∷◌, ◌++◌, length, get_or, take, drop, map, filter, Decides, refl, sym, ap, subst, ◌∙◌, inl, inr, arith}
 use Rattle.std.specs.declared.cmp.Ordering.{Ordering}
 use Rattle.std.specs.declared.cmp.Ordering.TheVariants.{Less, Equal, Greater}
 use Rattle.std.specs.Ordering.{match_ordering}
 use Rattle.std.specs.BTreeSet.{insert_key}
-use Rattle.std.specs.List.{list_any, flat_map, Contains}
+use Rattle.std.specs.List.{list_any, list_all, find, flat_map, Contains}
+use Rattle.std.proofs.lemmas.Bool.{and_parts, and_from}
+use Rattle.std.proofs.lemmas.List.{take-append-drop}
 use Rattle.std.proofs.lemmas.Map.Lookups.{CmpEqualImpliesEq}
 use Rattle.lis_graph.specs.Graph.{has, with_more}
 
@@ -29,7 +31,21 @@ module _ {K : Type 0} where
   contains_from_among (y ∷ ys) x (inl e) = (0, omega arith, e)
   contains_from_among (y ∷ ys) x (inr h) = let rest = contains_from_among ys x h in (suc rest.0, omega (arith, rest.1), rest.2)
 
+  pub among_at : (xs : List K) (k : ℕ) (d : K) → k < length xs → Among xs (get_or xs k d)
+  among_at [] k d lt = absurd (omega arith)
+  among_at (x ∷ xs) zero d lt = inl refl
+  among_at (x ∷ xs) (suc k) d lt = inr (among_at xs k d (omega (arith, lt)))
+
   -- ---- tests
+  pub all_among : (test : K → Bool) (xs : List K) (x : K) → list_all test xs ≡ true → Among xs x → test x ≡ true
+  all_among test [] x h m = absurd m
+  all_among test (y ∷ ys) x h (inl same) = ap test (sym same) ∙ (and_parts _ _ h).0
+  all_among test (y ∷ ys) x h (inr m) = all_among test ys x (and_parts _ _ h).1 m
+
+  pub all_from : (test : K → Bool) (xs : List K) → ((x : K) → Among xs x → test x ≡ true) → list_all test xs ≡ true
+  all_from test [] each = refl
+  all_from test (y ∷ ys) each = and_from _ _ (each y (inl refl)) (all_from test ys (λ x m. each x (inr m)))
+
   pub among_from_any : (test : K → Bool) (xs : List K) → list_any test xs ≡ true → (x : K) × Among xs x × (test x ≡ true)
   among_from_any test [] h = absurd cc
   among_from_any test (x ∷ xs) h = by (test x) refl h (among_from_any test xs)
@@ -46,6 +62,32 @@ module _ {K : Type 0} where
       by : (b : Bool) → list_any test ys ≡ true → (b || list_any test ys) ≡ true
       by true rest = refl
       by false rest = rest
+
+  -- the first member that passes a test
+  pub find_among : (test : K → Bool) (xs : List K) (x : K) → find test xs ≡ Some x → Among xs x × (test x ≡ true)
+  find_among test [] x h = absurd cc
+  find_among test (y ∷ ys) x h = by (test y) refl h (find_among test ys x)
+    where
+      by : (b : Bool) → test y ≡ b → cond b (Some y) (find test ys) ≡ Some x → (find test ys ≡ Some x → Among ys x × (test x ≡ true)) → Among (y ∷ ys) x × (test x ≡ true)
+      by true e found more = let same : y ≡ x = cc in (inl same, subst (λ k. test k ≡ true) same e)
+      by false e found more = let rest = more found in (inr rest.0, rest.1)
+
+  pub find_none : (test : K → Bool) (xs : List K) (x : K) → find test xs ≡ None → Among xs x → test x ≡ false
+  find_none test [] x h m = absurd m
+  find_none test (y ∷ ys) x h m = by (test y) refl h m (find_none test ys x)
+    where
+      by : (b : Bool) → test y ≡ b → cond b (Some y) (find test ys) ≡ None → Among (y ∷ ys) x → (find test ys ≡ None → Among ys x → test x ≡ false) → test x ≡ false
+      by true e none among more = absurd cc
+      by false e none (inl same) more = ap test (sym same) ∙ e
+      by false e none (inr deep) more = more none deep
+
+  pub none_found : (test : K → Bool) (xs : List K) → ((x : K) → Among xs x → test x ≡ false) → find test xs ≡ None
+  none_found test [] each = refl
+  none_found test (y ∷ ys) each = by (test y) (each y (inl refl)) (none_found test ys (λ x m. each x (inr m)))
+    where
+      by : (b : Bool) → b ≡ false → find test ys ≡ None → cond b (Some y) (find test ys) ≡ None
+      by true e rest = absurd cc
+      by false e rest = rest
 
   pub among_filter : (test : K → Bool) (xs : List K) (x : K) → Among (filter test xs) x → Among xs x × (test x ≡ true)
   among_filter test [] x h = absurd h
@@ -84,6 +126,9 @@ module _ {K : Type 0} where
   pub among_right : (xs ys : List K) (x : K) → Among ys x → Among (xs ++ ys) x
   among_right [] ys x h = h
   among_right (y ∷ xs) ys x h = inr (among_right xs ys x h)
+
+  pub among_take : (n : ℕ) (xs : List K) (x : K) → Among (take n xs) x → Among xs x
+  among_take n xs x m = subst (λ ys. Among ys x) (take-append-drop n xs) (among_left (take n xs) (drop n xs) x m)
 
 module _ {A B : Type 0} (f : A → B) where
   pub among_map : (xs : List A) (y : B) → Among (map f xs) y → (x : A) × Among xs x × (f x ≡ y)

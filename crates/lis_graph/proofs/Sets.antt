@@ -10,6 +10,11 @@ use Rattle.std.specs.List.Sorted.{IsStrictlySortedBy}
 use Rattle.lis_graph.specs.Graph.{with_more, is_rising}
 use Rattle.lis_graph.proofs.Members.{Among}
 
+pub less_from : (r : Ordering) → is_lt r ≡ true → r ≡ Less
+less_from Less h = refl
+less_from Equal h = absurd cc
+less_from Greater h = absurd cc
+
 module _ {K : Type 0} (cmp : K → K → Ordering) (order : IsTotalOrder cmp) where
   -- what holds of all elements holds of a member
   holds_among : (P : K → Type 0) (xs : List K) (x : K) → AllByRecursion P xs → Among xs x → P x

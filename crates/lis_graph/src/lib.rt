@@ -1,2 +1,2 @@
-//! Chains of links over any points: definitions and laws, and no code.
+//! Chains of links over any points, and names that come again: definitions and laws, and no code.
 #![tactic(auto)]

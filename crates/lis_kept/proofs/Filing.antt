@@ -1,5 +1,5 @@
 -- Lists of files in the order of their names, and catalogs with one more or one fewer file.
-pub use Rattle.lis_laws.proofs.Routes.{find_among}
+pub use Rattle.lis_graph.proofs.Members.{find_among}
 use Rattle.std.proofs.Common.{filter, option_map, arith}
 use Rattle.lis_kept.proofs.Common.{common_steps, rules, ◌≡◌, ◌⊎◌, refl, sym, ap, ap₂, ◌∙◌, subst, inl, inr, ℕ, ◌+◌, ◌<◌, ◌≤◌, nat_lt, ◌==◌, not, Bool, true, false, cond, List, [], ◌∷◌, length, map, Option, Some, None, Ordering, Less, Equal, Greater, match_ordering, insert_key, find, list_all, list_any, and_parts, eqb-true, lt-ltb, not-true, Among, among_filter, among_from_any, among_insert_key, among_map, are_distinct, FileRecord, Catalog, Filed, IsCatalog, slot_of, rec_at, without_slot, word_cmp, word_order, all_among, filter_le, and_from, both_ways, false_from_ne_true, any_from_among, map_among, all_from}
 use Rattle.std.proofs.lemmas.Bool.{eq-eqb, or_parts}

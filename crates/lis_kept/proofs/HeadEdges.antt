@@ -46,15 +46,12 @@ chain_into t n none (suc m) x step = by (chain_into t n none m step.0 step.2) st
 pub none_entails : (t : Taxonomy) (n : ℕ) → ((x : ℕ) → has_edge t x n ≡ false) → (h : ℕ) → Entails t h n → h ≡ n
 none_entails t n none h chain = chain_into t n none chain.0 h chain.1
 
--- a new edge to or from such a number is not refused
-pub not_refused : {T : Type 0} (t : Taxonomy) (n h x y : ℕ) (fault : EdgeFault) (r : Result T EdgeFault) → r ≡ Err fault → ((r ≡ Err Present) ↔ IsTrue (has_edge t x y)) → ((r ≡ Err Cycle) ↔ Entails t y x) → (r ≡ Err Absent → ⊥)
-    → x ≡ n → y ≡ h → ((z : ℕ) → has_edge t z n ≡ false) → ((z : ℕ) → has_edge t n z ≡ false) → (h ≡ n → ⊥) → ⊥
-not_refused t n h x y Present r is present cycle absent left right to from apart =
-    both_ways (has_edge t n y) (from y) (subst (λ m. has_edge t m y ≡ true) left (present.0 is))
-not_refused t n h x y Cycle r is present cycle absent left right to from apart =
-    let chain : Entails t h n = subst (λ m. Entails t m n) right (subst (λ m. Entails t y m) left (cycle.0 is)) in
-    apart (none_entails t n to h chain)
-not_refused t n h x y Absent r is present cycle absent left right to from apart = absent is
+-- a new edge from such a number is not refused, if none leads from it
+pub not_refused : {T : Type 0} (t : Taxonomy) (n h : ℕ) (fault : EdgeFault) (r : Result T EdgeFault) → r ≡ Err fault → ((r ≡ Err Present) ↔ IsTrue (has_edge t n h)) → ((r ≡ Err Cycle) ↔ Entails t h n) → (r ≡ Err Absent → ⊥)
+    → ((x : ℕ) → has_edge t x n ≡ false) → ((x : ℕ) → has_edge t n x ≡ false) → (h ≡ n → ⊥) → ⊥
+not_refused t n h Present r is present cycle absent to from apart = both_ways (has_edge t n h) (from h) (present.0 is)
+not_refused t n h Cycle r is present cycle absent to from apart = apart (none_entails t n to h (cycle.0 is))
+not_refused t n h Absent r is present cycle absent to from apart = absent is
 
 -- ---- one fewer edge
 pub has_edge-without_edge : (t : Taxonomy) (n h x y : ℕ) → has_edge (without_edge t n h) x y ≡ (not ((x == n) && (y == h)) && has_edge t x y)

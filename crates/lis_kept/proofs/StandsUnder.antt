@@ -1,6 +1,7 @@
 -- A word that is declared under others.
 use Rattle.std.proofs.Common.{arith, append-nil, eq-eqb}
-use Rattle.lis_kept.proofs.Common.{common_steps, rules, ◌≡◌, ℕ, zero, suc, ◌+◌, ◌==◌, ◌||◌, true, false, List, [], ◌∷◌, ◌++◌, length, Some, refl, sym, ap, ◌∙◌, subst, ◌<◌, ◌≤◌, if◌then◌else◌, ◌&&◌, not, Bool, cond, Option, None, get_or, set, take, count_by, slice_get, ap₂, inl, inr, fold, Chain, Among, Dict, word_of, has_word, is_plain_word, is_test, up, with_word, with_axiom, among_from_has_word, and_parts, not-true, ne_eqb, Contains-get_or, slice_get_within, get_or_from_slice_get, among_from_contains, are_distinct, number_of, AxiomSlot, FreeAxiom, Pair, same_word, head_bytes, is_declarable, declarable_not_valued, all_among, same_word_decides, both_ways, false_from_ne_true, or_right, and_from, or_left, any_from_among, neither}
+use Rattle.lis_kept.proofs.Common.{common_steps, rules, ◌≡◌, ℕ, zero, suc, ◌+◌, ◌==◌, ◌||◌, true, false, List, [], ◌∷◌, ◌++◌, length, Some, refl, sym, ap, ◌∙◌, subst, ◌<◌, ◌≤◌, if◌then◌else◌, ◌&&◌, not, Bool, cond, Option, None, get_or, set, take, count_by, slice_get, ap₂, fold, Chain, Among, Dict, word_of, has_word, is_plain_word, is_test, up, with_word, with_axiom, among_from_has_word, and_parts, not-true, ne_eqb, slice_get_within, get_or_from_slice_get, are_distinct, number_of, AxiomSlot, FreeAxiom, Pair, same_word, head_bytes, is_declarable, declarable_not_valued, all_among, same_word_decides, both_ways, false_from_ne_true, or_right, and_from, or_left, any_from_among, neither}
+use Rattle.lis_graph.proofs.Members.{among_at, among_take}
 use Rattle.lis_words.proofs.Tests.{test_not_plain}
 use Rattle.lis_model.specs.State.{State, links}
 use Rattle.lis_model.specs.Changes.{declared_under, axiom_added}
@@ -119,15 +120,6 @@ under_used word p mid q declares rights each used n some = search (rules, each_u
 
 -- ---- a new word is declared under others, axiom by axiom
 -- ---- lists
-among_take : (i : ℕ) (ns : List ℕ) (n : ℕ) → Among (take i ns) n → Among ns n
-among_take zero ns n m = absurd m
-among_take (suc i) [] n m = m
-among_take (suc i) (x ∷ ns) n (inl same) = inl same
-among_take (suc i) (x ∷ ns) n (inr m) = inr (among_take i ns n m)
-
-among_at : (ns : List ℕ) (i : ℕ) → i < length ns → Among ns (get_or ns i 0)
-among_at ns i lt = among_from_contains ns (get_or ns i 0) (Contains-get_or ns i 0 lt)
-
 -- what is at an index is none of those before it, if none occurs twice
 not_before : (ns : List ℕ) (i : ℕ) → are_distinct ns ≡ true → i < length ns → has_number (take i ns) (get_or ns i 0) ≡ false
 not_before [] i distinct lt = absurd (omega (arith, lt))
@@ -136,7 +128,7 @@ not_before (n ∷ ns) (suc i) distinct lt =
     let parts = and_parts (not (has_number ns n)) (are_distinct ns) distinct in
     let inside : i < length ns = omega (arith, lt) in
     ap₂ (λ a b. a || b)
-    (ne_eqb n (get_or ns i 0) (λ same. both_ways (has_number ns n) (not-true (has_number ns n) parts.0) (number_from_among ns n (subst (λ m. Among ns m) (sym same) (among_at ns i inside)))))
+    (ne_eqb n (get_or ns i 0) (λ same. both_ways (has_number ns n) (not-true (has_number ns n) parts.0) (number_from_among ns n (subst (λ m. Among ns m) (sym same) (among_at ns i 0 inside)))))
     (not_before ns i parts.1 inside)
 
 plain_word : (o : Option (List ℕ)) → is_plain_by o ≡ true → (w : List ℕ) × (o ≡ Some w) × (is_plain_word w ≡ true)
@@ -209,12 +201,12 @@ module _ (p mid now : Metadata) (sound : AreSound p) (after : AreSound now) (wor
     other n m same = both_ways (is_plain_by (word_of p.dict n)) (ap is_plain_by (ap (word_of p.dict) same ∙ declares.free)) (plain_at n m)
 
     to : (w : List ℕ) × (word_of p.dict right ≡ Some w) × (is_plain_word w ≡ true)
-    to = plain_word (word_of p.dict right) (plain_at right (among_at rights i lt))
+    to = plain_word (word_of p.dict right) (plain_at right (among_at rights i 0 lt))
 
     named_right : word_of now.dict right ≡ Some to.0
     named_right =
         word_now right
-        ∙ (ap (λ b. if b then Some word else word_of p.dict right) (ne_eqb number right (λ same. other right (among_at rights i lt) (sym same))) ∙ to.1)
+        ∙ (ap (λ b. if b then Some word else word_of p.dict right) (ne_eqb number right (λ same. other right (among_at rights i 0 lt) (sym same))) ∙ to.1)
 
     -- ---- it is new
     no_pair : has_pair now.axioms number right ≡ false
@@ -251,7 +243,7 @@ module _ (p mid now : Metadata) (sound : AreSound p) (after : AreSound now) (wor
         (no_pair_to x)
 
     no_circle : (b : Bool) → is_test word ≡ b → has_word (up (declared_of now) (axioms_of now) to.0) word ≡ false
-    no_circle false e = not_entailed now after number word named (nothing e) right to.0 named_right (other right (among_at rights i lt))
+    no_circle false e = not_entailed now after number word named (nothing e) right to.0 named_right (other right (among_at rights i 0 lt))
     no_circle true e = plain_no_test now after to.0 word to.2 e
 
     -- ---- a slot is free

@@ -22,3 +22,4 @@ pub use places::{
     axioms_start, bitmap_start, data_start, files_start, image_capacity, image_layout, rows_start,
 };
 pub use test_edges::link_next;
+pub use words::link_head;

@@ -53,12 +53,12 @@ fn head_number(dict: &Dict, word: &Word) -> Option<u32>
     }
 }
 
-// Adds the edge from the number of a new word to that of its head, if it has one.
-fn link_head(taxonomy: &mut Taxonomy, number: u32, head: Option<u32>)
+/// Adds the edge from a number without edges to that of its head, if it has one.
+pub fn link_head(taxonomy: &mut Taxonomy, number: u32, head: Option<u32>)
     requires number { number < taxonomy.old.props }
     requires head { IfSome head (λ h. h < taxonomy.old.props) }
     requires apart { head ≢ Some number }
-    requires to { (x : ℕ) → has_edge taxonomy.old x number ≡ false }
+    requires to { IfSome head (λ h. (x : ℕ) → has_edge taxonomy.old x number ≡ false) }
     requires from { (x : ℕ) → has_edge taxonomy.old number x ≡ false }
     requires room { edge_count taxonomy.old < edge_room taxonomy.old.props }
     ensures { taxonomy.new ≡ with_edge_to taxonomy.old number head }

@@ -12,20 +12,12 @@ use Rattle.std.proofs.lemmas.Bool.{and_parts, and_from}
 use Rattle.std.proofs.lemmas.List.Sums.{sum_by-cons}
 use Rattle.lis_graph.specs.Graph.{is_rising}
 use Rattle.lis_graph.proofs.Members.{Among, among_filter, among_insert_key}
+pub use Rattle.lis_graph.proofs.Members.{all_among, all_from}
 pub use Rattle.lis_graph.proofs.Filters.{filter_le}
 use Rattle.lis_graph.proofs.Sets.{below_tail, sorted_tail, sorted_from_rising, sorted_insert_key}
 
 -- ---- tests of all members
 module _ {K : Type 0} where
-  pub all_among : (test : K → Bool) (xs : List K) (x : K) → list_all test xs ≡ true → Among xs x → test x ≡ true
-  all_among test [] x h m = absurd m
-  all_among test (y ∷ ys) x h (inl same) = ap test (sym same) ∙ (and_parts _ _ h).0
-  all_among test (y ∷ ys) x h (inr m) = all_among test ys x (and_parts _ _ h).1 m
-
-  pub all_from : (test : K → Bool) (xs : List K) → ((x : K) → Among xs x → test x ≡ true) → list_all test xs ≡ true
-  all_from test [] each = refl
-  all_from test (y ∷ ys) each = and_from _ _ (each y (inl refl)) (all_from test ys (λ x m. each x (inr m)))
-
   -- a weaker test
   pub all_weaker : (test other : K → Bool) (xs : List K) → ((x : K) → Among xs x → test x ≡ true → other x ≡ true) → list_all test xs ≡ true → list_all other xs ≡ true
   all_weaker test other xs weaker h = all_from other xs (λ x m. weaker x m (all_among test xs x h m))

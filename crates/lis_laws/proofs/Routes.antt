@@ -1,9 +1,9 @@
 -- The route to a file: it leads there by increments, it is the only one, and it is shorter than the extension.
-use Rattle.std.proofs.Common.{◌≡◌, ℕ, zero, suc, ◌<◌, ◌≤◌, Bool, true, false, ◌&&◌, ◌||◌, cond, Option, Some, List, [], ◌∷◌, ◌++◌, length, filter, refl, sym, ap, subst, ◌∙◌, inl, inr, arith}
+use Rattle.std.proofs.Common.{◌≡◌, ℕ, zero, suc, ◌<◌, ◌≤◌, Bool, true, false, ◌&&◌, ◌||◌, cond, Option, Some, List, [], ◌∷◌, ◌++◌, length, filter, refl, sym, ap, subst, ◌∙◌, arith}
 use Rattle.std.specs.List.{list_any, find}
 use Rattle.std.proofs.lemmas.Bool.{and_parts, not-true, not-false, not_from_false}
 use Rattle.std.proofs.lemmas.List.Folds.{list_all-append}
-use Rattle.lis_graph.proofs.Members.{Among, among_filter, filter_among, contains_from_among}
+use Rattle.lis_graph.proofs.Members.{Among, find_among, among_filter, filter_among, contains_from_among}
 use Rattle.lis_graph.proofs.Filters.{filter_same, filter_twice, filter_fewer}
 use Rattle.lis_words.specs.Words.{has_word}
 use Rattle.lis_grammar.specs.Formula.{Formula}
@@ -22,14 +22,6 @@ find_some f (x ∷ xs) h = by (f x) h (find_some f xs)
     by : (b : Bool) → (b || list_any f xs) ≡ true → (list_any f xs ≡ true → (y : _) × (find f xs ≡ Some y)) → (y : _) × (cond b (Some x) (find f xs) ≡ Some y)
     by true some more = (x, refl)
     by false some more = more some
-
-pub find_among : {K : Type 0} (f : K → Bool) (xs : List K) (x : K) → find f xs ≡ Some x → Among xs x × (f x ≡ true)
-find_among f [] x h = absurd cc
-find_among f (y ∷ ys) x h = by (f y) refl h (find_among f ys x)
-  where
-    by : (b : Bool) → f y ≡ b → cond b (Some y) (find f ys) ≡ Some x → (find f ys ≡ Some x → Among ys x × (f x ≡ true)) → Among (y ∷ ys) x × (f x ≡ true)
-    by true e found more = let same : y ≡ x = cc in (inl same, subst (λ k. f k ≡ true) same e)
-    by false e found more = let rest = more found in (inr rest.0, rest.1)
 
 -- ---- one step of a route
 holds_further : (t : Table) → Sound t → (place : List Formula) (p : List ℕ) → Among t.known p → (file : Entry) → Among t.files file

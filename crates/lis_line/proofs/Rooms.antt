@@ -3,10 +3,9 @@ use Rattle.std.proofs.Common.{◌≡◌, ℕ, ◌≤◌, Bool, true, false, cond
 use Rattle.std.specs.List.{list_any}
 use Rattle.std.proofs.lemmas.Grind.{common_steps}
 use Rattle.lis_model.specs.declared.refusal.Refusal.TheVariants.{LongLine}
-use Rattle.lis_model.specs.Step.{Item}
 use Rattle.lis_model.specs.Step.Item.{Bad}
-use Rattle.lis_model.specs.Script.{before_feed, after_feed, is_long, words_of, line_words, FirstOf, item_of, payload_size, payload_of, first_ended, first_with, first_by, first_of}
-use Rattle.lis_model.proofs.Lines.{IsOneLine, TakesSome, CutsBy, cuts_by, before_feed_at, before_feed_all, after_feed_at, after_feed_all, after_feed_shorter, ended_shorter, with_shorter, has_feed}
+use Rattle.lis_model.specs.Script.{before_feed, after_feed, is_long, words_of, line_words, FirstOf, payload_size, first_by, first_of}
+use Rattle.lis_model.proofs.Lines.{IsOneLine, TakesSome, CutsBy, cuts_by, before_feed_at, before_feed_all, after_feed_at, after_feed_all, after_feed_shorter, with_shorter, has_feed}
 use Rattle.lis_line.specs.Tagged.{Tagged, after_blanks, room_of, room_of_words, spoken_in, no_room, in_room, first_spoken, first_tagged, all_tagged, whole_tagged, tagged_cut}
 use Rattle.lis_line.proofs.Words.{word_len, word_within, one_word, word_fits}
 use Rattle.lis_line.proofs.Kept.{ByLines, by_lines, by_itself, session_lines}

@@ -1,46 +1,36 @@
 //! The payload after a command's line.
 
-ghost use Rattle.std.specs.Prelude.{◌≡◌, ◌+◌, ◌<◌, ◌≤◌, ◌^◌, [], ◌++◌, length, take, drop, IfOk};
+ghost use Rattle.std.specs.Prelude.{◌≡◌, ◌+◌, ◌<◌, ◌≤◌, ◌^◌, [], length, IfOk};
 ghost use Rattle.lis_model.specs.Step.{no_payload};
 ghost use Rattle.lis_model.specs.Script.{payload_limit};
-ghost use Rattle.lis_line.specs.Inside.{frame_bytes, IsKept};
 ghost use Rattle.lis_line.specs.Taking.{UsesSource};
 ghost use Rattle.lis_line.specs.Segments.{with_bytes, TakesRun, Fills};
 
 use crate::stock::Stock;
 use lis_limits::MAX_PAYLOAD;
 use lis_ports::{Failed, Source};
-use lis_region::{Frame, Region};
 use std::alloc::{AllocError, Global};
 use std::marker::Model;
 
 /// The payload after a line: how many bytes it has, and the bytes themselves, if this many are kept.
 #[derive(Drop)]
 pub struct Payload {
-    region: Region<u8>,
-    frame: Frame,
+    // All bytes, as long as this many are kept. The room for them is reserved, and touched only as far as there have been bytes.
+    bytes: Vec<u8>,
     size: u64,
 }
 
 impl Model for Payload {
+    ghost use Rattle.std.specs.Prelude.{vec_capacity};
     ghost use Rattle.lis_model.specs.Step.{Payload as Told};
-    ghost use Rattle.lis_line.specs.Inside.{payload_in, IsKept};
+    ghost use Rattle.lis_model.specs.Script.{payload_of};
+    ghost use Rattle.lis_line.specs.Inside.{IsKept};
 
     ghost Value = { Told };
 
-    ghost view = { λ p. payload_in p.region p.frame p.size };
+    ghost view = { λ p. payload_of p.size p.bytes.items };
 
-    ghost invariant = { λ p. IsKept p.region p.frame };
-}
-
-fn write(region: &mut Region<u8>, frame: &Frame, place: usize, bytes: &[u8])
-    requires kept { IsKept region.old frame.now }
-    requires room { place + length bytes.now ≤ payload_limit }
-    ensures kept { IsKept region.new frame.now }
-    ensures bytes { frame_bytes region.new frame.now
-        ≡ take place (frame_bytes region.old frame.now) ++ bytes.now ++ drop (place + length bytes.now) (frame_bytes region.old frame.now) }
-{
-    region.items_mut(frame)[place..place + bytes.len()].copy_from_slice(bytes);
+    ghost invariant = { λ p. IsKept p.bytes.items (vec_capacity p.bytes) p.size };
 }
 
 impl Payload {
@@ -48,13 +38,8 @@ impl Payload {
     pub fn new(alloc: Global) -> Result<Payload, AllocError>
         ensures { IfOk result (λ payload. payload ≡ no_payload) }
     {
-        let mut region = Region::new(alloc, 1, MAX_PAYLOAD, 0)?;
-        let Some(frame) = region.take() else {
-            unreachable!()
-        };
         Ok(Payload {
-            region,
-            frame,
+            bytes: Vec::with_capacity(alloc, MAX_PAYLOAD as usize)?,
             size: 0,
         })
     }
@@ -76,13 +61,14 @@ impl Payload {
         if self.size > MAX_PAYLOAD as u64 {
             return &[];
         }
-        &self.region.items(&self.frame)[..self.size as usize]
+        &self.bytes
     }
 
     /// Empties it.
     pub fn clear(&mut self)
         ensures { self.new ≡ no_payload }
     {
+        self.bytes.clear();
         self.size = 0;
     }
 
@@ -93,7 +79,9 @@ impl Payload {
     {
         let size = self.size + bytes.len() as u64;
         if size <= MAX_PAYLOAD as u64 {
-            write(&mut self.region, &self.frame, self.size as usize, bytes);
+            let Ok(()) = self.bytes.extend_from_slice(bytes) else {
+                unreachable!()
+            };
         }
         self.size = size;
     }

@@ -3,3 +3,4 @@ pub mod Lines
 mod Examples
 pub mod Stored
 pub mod NotedLemmas
+pub mod Distinct

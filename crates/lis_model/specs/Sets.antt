@@ -17,9 +17,13 @@ with_words words more = with_more word_cmp words more
 abbrev pub set_of : List (List ℕ) → List (List ℕ)
 set_of words = with_words [] words
 
+-- how many values a byte has
+abbrev pub byte_values : ℕ
+byte_values = 256
+
 -- each number is one of this many bytes
 abbrev pub fit : ℕ → List ℕ → Bool
-fit width ns = list_all (λ n. nat_lt n (256 ^ width)) ns
+fit width ns = list_all (λ n. nat_lt n (byte_values ^ width)) ns
 
 -- the number is one of the list
 abbrev pub has_number : List ℕ → ℕ → Bool

@@ -18,6 +18,7 @@ use Rattle.lis_content.proofs.Numbers.{below_from_free, within_if_below}
 use Rattle.lis_fields.proofs.Parts.{record_tests, few_blocks as few_in_form, size_fits}
 use Rattle.lis_kept.proofs.Contents.{slot_blocks_counted}
 use Rattle.lis_open.specs.ReadFiles.{HasBlocks, AreIndexed, AreReadBlocks}
+use Rattle.lis_model.proofs.Stored.{stored_limit_le}
 
 pub fits_after : {a b : Meaning} (journal : Held) (kept : ℕ → List ℕ) → OnlyReads a b → Fits journal a kept → Fits journal b kept
 fits_after journal kept reads fits = fits_unchanged journal reads.run (reads.same fits.honest) fits

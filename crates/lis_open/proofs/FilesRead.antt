@@ -1,9 +1,10 @@
 -- The files of file slots, read one after another.
 use Rattle.std.proofs.Common.{ltb-false, leb-false}
-use Rattle.lis_open.proofs.Common.{rules, ◌≡◌, ◌⊎◌, ◌∙◌, refl, sym, ap, subst, inl, inr, ℕ, ◌+◌, ◌<◌, ◌≤◌, ◌==◌, nat_lt, nat_le, Bool, true, false, cond, not, ◌&&◌, ◌||◌, is_some, Option, Some, None, List, [], length, get_or, IsTrue, arith, eq-eqb, length-set, get_or-set_same, get_or-set_other, ◌∷◌, IfSome, ne_eqb, lt-ltb, leb-true, flat_map, ⊎_elim, list_all, or_cases, or_left, or_right, length-replicate, same_Some, Meaning, DiskFaultEnds, Held, Fits, slot, is_taken, are_free, are_distinct, are_below, word_of, number_below, number_from_word, FileRecord, file_bytes, is_file, is_record, FileSlot, FreeFile, Used, Limits, bytes_told, blocks_told, HasIndex, file_slots, among_from_contains, filed_rec, among_from_number, numbers_at, cases_lt, Among, is_large, index_bytes, numbers_in, index_home, number_of, Filed, prop_bytes, is_prop, axiom_bytes, is_axiom, PropSlot, AxiomSlot, prop_once, axiom_once, same_word, is_valued, head_bytes, same_word_decides, among_from_has_word, Spot, data_start, blocks_needed, file_words, own_words, up, is_assignable, property_slots, axiom_slots, words_told, file_told, axioms_of, words_in, word_at, one_array, and_parts, and_from, both_ways, false_from_ne_true, has_number, not_true, all_among, flat_map_among, has_word, has_word_from_among, set_of_among, ⊎_map, cases_Bool}
+use Rattle.lis_open.proofs.Common.{rules, ◌≡◌, ◌⊎◌, ◌∙◌, refl, sym, ap, subst, inl, inr, ℕ, ◌+◌, ◌<◌, ◌≤◌, nat_lt, nat_le, Bool, true, false, not, ◌&&◌, ◌||◌, is_some, Option, Some, None, List, [], length, get_or, IsTrue, arith, length-set, get_or-set_same, get_or-set_other, ◌∷◌, IfSome, lt-ltb, leb-true, flat_map, ⊎_elim, list_all, or_cases, or_left, or_right, length-replicate, same_Some, Meaning, DiskFaultEnds, Held, Fits, slot, is_taken, are_free, are_distinct, are_below, word_of, number_below, number_from_word, FileRecord, file_bytes, is_file, is_record, FileSlot, FreeFile, Used, Limits, bytes_told, blocks_told, HasIndex, file_slots, among_from_contains, filed_rec, among_from_number, numbers_at, cases_lt, Among, is_large, index_bytes, numbers_in, index_home, number_of, Filed, prop_bytes, is_prop, axiom_bytes, is_axiom, PropSlot, AxiomSlot, prop_once, axiom_once, same_word, is_valued, head_bytes, same_word_decides, among_from_has_word, data_start, blocks_needed, file_words, own_words, up, is_assignable, property_slots, axiom_slots, words_told, file_told, axioms_of, words_in, word_at, one_array, and_parts, and_from, both_ways, false_from_ne_true, has_number, not_true, all_among, flat_map_among, has_word, has_word_from_among, set_of_among, ⊎_map, cases_Bool}
 use Rattle.std.proofs.lemmas.Bool.{and_cases, not-false}
 use Rattle.lis_content.proofs.Numbers.{length-marked, below_from_free, below_if_taken}
-use Rattle.lis_catalog.specs.Catalog.{Catalog, IsCatalog, slot_of, HasRecords, IsAgain, IsFirstAgain}
+use Rattle.lis_graph.specs.Again.{IsAgain, IsFirstAgain}
+use Rattle.lis_catalog.specs.Catalog.{Catalog, IsCatalog, slot_of, HasRecords}
 use Rattle.lis_catalog.proofs.Laws.{slot_of-rec_at}
 use Rattle.std.proofs.Math.Path.{fun_ext}
 use Rattle.lis_laws.proofs.Counts.{all_weaker}
@@ -28,7 +29,7 @@ use Rattle.lis_open.proofs.Once.{is_taken-marked, each_number}
 use Rattle.lis_laws.proofs.Chains.{up_self, up_own, links_head}
 use Rattle.lis_model.specs.declared.spot.Spot.TheVariants.{File as FileSpot}
 use Rattle.lis_store.proofs.Relates.{told_few}
-use Rattle.lis_open.specs.Checks.{IsFile, AreProperties, AreAxioms, declared_by, axioms_by, description_by, FileFault, HasFileFault, FileFails, Fails, rank}
+use Rattle.lis_open.specs.Checks.{IsFile, AreProperties, AreAxioms, declared_by, axioms_by, description_by, FileFault, HasFileFault, FileFails}
 use Rattle.lis_open.specs.Checks.FileFault.{NameTaken, TagUnnumbered, TagUnassignable, BlockMissing, IndexUnformed, BlockTwice, BlockTaken, WordUnnumbered, TooManyWords}
 use Rattle.lis_open.specs.ReadFiles.RecordFault.{NotAssignable, NoBlocks, NotDescribed}
 use Rattle.lis_open.proofs.SpotKinds.{none_before, none_fails}
@@ -457,18 +458,18 @@ module _ (limits : Limits) (words : Words) (axioms : Axioms) (files : TakenFiles
 -- ---- the files, sorted by their names
 module _ (limits : Limits) (words : Words) (axioms : Axioms) (slots : FileSlots) (end : ℕ) (are : AreFirstWords limits words limits.props) (links : AreFirstAxioms limits words axioms (axiom_slots limits).count) (first : AreFirstRecords limits words axioms slots end) where
   -- a slot whose name an earlier slot has was read
-  again_read : (n : ℕ) → IsAgain slots.unsorted n → n < end
+  again_read : (n : ℕ) → IsAgain (λ (rec : FileRecord). rec.name) slots.unsorted n → n < end
   again_read n again = slot_read limits words axioms (in_slots slots) end are links first.taken n again.2 again.5
 
   -- the names of slots before the first such slot are new
-  new_before : (n m : ℕ) → IsFirstAgain slots.unsorted n → m < n → HasNewName (in_slots slots) m
+  new_before : (n m : ℕ) → IsFirstAgain (λ (rec : FileRecord). rec.name) slots.unsorted n → m < n → HasNewName (in_slots slots) m
   new_before n m least lt = λ earlier other rec before there here same. least.first m lt (earlier, other, rec, before, there, here, same)
 
   module _ (at : ℕ → List ℕ) (told : WordsAreSpelled limits at words limits.props) (pairs : AxiomsAreSpelled limits at axioms (axiom_slots limits).count) (ended : RecordsEnded limits at words axioms slots end) where
     passes : (n : ℕ) → n < end → HasNewName (in_slots slots) n → FileFails limits at n → ⊥
     passes = file_passes limits words axioms (in_slots slots) end are links first.taken at told pairs ended.so_far.spelled ended.so_far.numbered ended.so_far.blocks
 
-    pub again_fails : (n : ℕ) → IsFirstAgain slots.unsorted n → IsFirst limits at 4 (FileSpot n)
+    pub again_fails : (n : ℕ) → IsFirstAgain (λ (rec : FileRecord). rec.name) slots.unsorted n → IsFirst limits at 4 (FileSpot n)
     again_fails n least =
         let again = least.again in
         let lt = again_read n again in

@@ -23,6 +23,7 @@ use Rattle.lis_words.specs.Words.{test_of, is_file_name}
 use Rattle.lis_journal.specs.Staging.{are_whole}
 use Rattle.lis_model.specs.State.{is_declarable, file_limit, blocks_taken, used_blocks, AxiomsAreFormed, FilesAreFormed}
 use Rattle.lis_model.specs.Tests.{is_met}
+use Rattle.lis_model.proofs.Stored.{stored_range}
 use Rattle.lis_kept.specs.TestEdges.{test_by}
 use Rattle.lis_kept.proofs.Known.{number_told, declared_set, declared_has_number, among_axiom, words_known, among_word}
 use Rattle.lis_store.proofs.FileTests.{assigned_no_test, test_described}
@@ -357,7 +358,7 @@ module _ (limits : Limits) (words : Words) (axioms : Axioms) (files : Files) (ma
   -- ---- the state
   formed : WellFormed s
   formed = record {
-    limits = range;
+    limits = stored_range limits range;
     declared_set = declared_set held held_sound;
     axiom_set = rising_from_sorted pair_cmp pair_order s.axioms (sorted_with_more pair_cmp pair_order [] (pairs_told words.dict axioms.slots.items) (sorted_nil pair_cmp pair_order));
     file_set = sym (rising_map word_cmp file_cmp (λ (f : Filed). f.rec.name) (file_told limits words.dict at) files.catalog.entries (λ a b. refl)) ∙ held_sound.catalog.rising;

@@ -1,6 +1,6 @@
 -- How opening an image ends: the super block, the journal, and the parts after it.
 use Rattle.std.proofs.Common.{slice_index_or}
-use Rattle.lis_open.proofs.Common.{rules, ◌≡◌, refl, sym, ap, ap₂, ◌∙◌, subst, inl, inr, ℕ, ◌+◌, ◌/◌, ◌≤◌, ◌<◌, nat_lt, Bool, true, false, cond, List, [], ◌++◌, map, take, replicate, Option, Some, None, IsTrue, IsSomeAnd, arith, fold, flat_map, Contains, ◌⊎◌, ◌*◌, length, Result, Ok, Err, insert_key, list_all, part, bits_bytes, block, Keeps, Slots, slot, marked, are_distinct, is_large, index_bytes, numbers_in, index_home, FileRecord, SpellsSuper, prop_bytes, is_prop, axiom_bytes, is_axiom, file_bytes, is_file, FreeFile, PropSlot, Limits, bitmap_start, data_start, image_blocks, are_stored, State, file_cmp, blocks_needed, property_slots, axiom_slots, file_slots, row_slots, bytes_told, blocks_told, HasIndex, Contents, AreSlots, all_records, spelled_state, is_had_by, word_at, row_bit, replayed, File, file_of_record, same_Some, Meaning, IsSettled, Leaves, Held, Fits, Spot, Super, BadRecord, Tells, Stored, IsSound, contents_of, leaves_weaken, leaves_then, IsWritten, ⊎_map}
+use Rattle.lis_open.proofs.Common.{rules, ◌≡◌, refl, sym, ap, ap₂, ◌∙◌, subst, inl, inr, ℕ, ◌+◌, ◌/◌, ◌≤◌, ◌<◌, nat_lt, Bool, true, false, cond, List, [], ◌++◌, map, take, replicate, Option, Some, None, IsTrue, IsSomeAnd, arith, fold, flat_map, Contains, ◌⊎◌, ◌*◌, length, Result, Ok, Err, insert_key, list_all, part, bits_bytes, block, Keeps, Slots, slot, marked, are_distinct, is_large, index_bytes, numbers_in, index_home, FileRecord, SpellsSuper, prop_bytes, is_prop, axiom_bytes, is_axiom, file_bytes, is_file, FreeFile, PropSlot, Limits, bitmap_start, data_start, image_blocks, are_stored, State, file_cmp, blocks_needed, property_slots, axiom_slots, file_slots, row_slots, bytes_told, blocks_told, HasIndex, Contents, AreSlots, all_records, spelled_state, is_had_by, word_at, row_bit, replayed, File, file_of_record, same_Some, Meaning, IsSettled, Leaves, Held, Fits, Spot, Super, BadRecord, Tells, Stored, IsSound, contents_of, leaves_weaken, leaves_then, IsWritten, ⊎_map, leb-true, le-leb, and_parts, and_from, nat_le}
 use Rattle.std.proofs.Math.Path.{fun_ext}
 use Rattle.lis_journal.specs.Images.{StandsFor as KeptBy, KeepsPast}
 use Rattle.lis_journal.proofs.Fitting.{replayed-front}
@@ -29,6 +29,8 @@ use Rattle.lis_open.proofs.Damage.{damaged}
 use Rattle.lis_kept.specs.Image.{image_layout}
 use Rattle.lis_journal.specs.declared.layout.Layout.{Layout}
 use Rattle.lis_model.specs.Image.{properties_start}
+use Rattle.lis_model.specs.Ranges.{are_in_range}
+use Rattle.lis_model.proofs.Stored.{stored_range}
 
 -- ---- slots and bytes depend on home blocks alone
 le_more : (m a b : ℕ) → m ≤ a → m ≤ a + b
@@ -161,8 +163,11 @@ pub failed_opened : (old new : Meaning) → Opened old new (Err DiskFault)
 failed_opened old new = unspotted old new DiskFault tt tt (λ spot fault. cc)
 
 -- ---- the super block, as it was read
-pub super_read : (image read : List ℕ) (limits : Limits) → read ≡ part 0 4096 image → IsTrue (are_stored limits) × SpellsSuper limits read → HasSuper limits image
-super_read image read limits is told = record { range = told.0; spelled = subst (λ bytes. SpellsSuper limits bytes) is told.1 }
+pub old_enough : (limits : Limits) → IsTrue (are_in_range limits) → limits.version ≤ 2 → IsTrue (are_stored limits)
+old_enough limits range old = and_from (are_in_range limits) (nat_le limits.version 2) range (le-leb limits.version 2 old)
+
+pub super_read : (image read : List ℕ) (limits : Limits) → read ≡ part 0 4096 image → IsTrue (are_in_range limits) × SpellsSuper limits read → limits.version ≤ 2 → HasSuper limits image
+super_read image read limits is told old = record { range = old_enough limits told.0 old; spelled = subst (λ bytes. SpellsSuper limits bytes) is told.1 }
 
 pub none_read : (image read : List ℕ) (found : Option Limits) → found ≡ None → read ≡ part 0 4096 image
     → ((told : Limits) → IsTrue (are_in_range told) → SpellsSuper told read → found ≡ Some told) → (limits : Limits) → HasSuper limits image → ⊥

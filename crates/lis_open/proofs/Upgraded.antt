@@ -1,7 +1,7 @@
 -- A state of version 1 and the metadata of it, in another version: the same except for the limits.
 use Rattle.std.proofs.Common.{rules}
 use Rattle.std.proofs.Common.{take-append-drop}
-use Rattle.lis_open.proofs.Common.{◌≡◌, sym, ap, ◌∙◌, subst, ℕ, ◌+◌, ◌≤◌, nat_le, true, Some, List, length, map, slice_get, sum, IsTrue, arith, ◌⊎◌, refl, ap₂, inl, inr, ◌*◌, ◌==◌, Bool, false, [], ◌∷◌, ◌++◌, take, drop, Result, Ok, Err, if◌then◌else◌, eq-eqb, le-leb, drop-drop, Contains, leb-true, list_all, among_from_contains, Filed, rec_at, are_distinct, Dict, FileRecord, SpellsSuper, Pair, data_start, State, description, WellFormed, Metadata, AreSound, blocks_told, Tells, Meaning, part, Torn, Always, IsSettled, Leaves, part-torn, part-put, block, Keeps, Spreads, Limits, image_blocks, Stored, IsSound, and_parts, and_from, has_number, all_among, File, IsWritten, put, always_settled, leaves_then, leaves_weaken, replayed, recovered, ⊎_map}
+use Rattle.lis_open.proofs.Common.{◌≡◌, sym, ap, ◌∙◌, subst, ℕ, ◌+◌, ◌≤◌, nat_le, true, Some, List, length, map, slice_get, sum, IsTrue, arith, ◌⊎◌, refl, ap₂, inl, inr, ◌*◌, ◌==◌, Bool, false, [], ◌∷◌, ◌++◌, take, drop, Result, Ok, Err, if◌then◌else◌, eq-eqb, le-leb, drop-drop, Contains, leb-true, list_all, among_from_contains, Filed, rec_at, are_distinct, Dict, FileRecord, SpellsSuper, Pair, data_start, State, description, WellFormed, Metadata, AreSound, blocks_told, Tells, Meaning, part, Torn, Always, IsSettled, Leaves, part-torn, part-put, block, Keeps, Spreads, Limits, image_blocks, Stored, IsSound, and_parts, and_from, has_number, all_among, File, IsWritten, put, always_settled, leaves_then, leaves_weaken, replayed, recovered, ⊎_map, word_of, is_some, nat_lt, cond, ◌/◌, ◌&&◌}
 use Rattle.lis_store.specs.Stands.{Stands}
 use Rattle.std.proofs.lemmas.Bool.{cond-false}
 use Rattle.lis_content.proofs.Indexes.{small_size}
@@ -15,6 +15,8 @@ use Rattle.lis_kept.proofs.Formed.{record_parts}
 use Rattle.lis_kept.specs.Metadata.{record_at}
 use Rattle.lis_laws.proofs.Counts.{all_weaker}
 use Rattle.lis_model.specs.State.{blocks_needed, blocks_taken}
+use Rattle.lis_model.specs.Ranges.{are_stored}
+use Rattle.lis_model.proofs.Stored.{stored_parts}
 use Rattle.lis_kept.specs.Areas.Area.{Properties, Axioms, Files, Rows, Bitmap}
 use Rattle.lis_kept.specs.Sound.{is_sound_record, IsSoundAxiom}
 use Rattle.lis_kept.proofs.Filing.{map_all}
@@ -49,6 +51,10 @@ metadata_in version k = record k { limits = record k.limits { version = version 
 -- in its own version it is itself
 pub state_own : (s : State) → s.limits.version ≡ 1 → state_in 1 s ≡ s
 state_own s one = ap (λ version. state_in version s) (sym one)
+
+-- an image that is not of version 2 is of version 1
+pub first_version : (limits : Limits) → IsTrue (are_stored limits) → (limits.version ≡ 2 → ⊥) → limits.version ≡ 1
+first_version limits range none = elim ((stored_parts limits range).version) [ inl one ↦ one | inr two ↦ absurd (none two) ]
 
 -- ---- the state, which has no large file
 -- no file has more than this many bytes

@@ -1,8 +1,9 @@
 -- The words of property slots: read one after another, and sorted once.
-use Rattle.lis_open.proofs.Common.{rules, ◌≡◌, ◌∙◌, refl, sym, ap, subst, inl, ℕ, ◌+◌, ◌<◌, Bool, true, false, not, is_some, Option, Some, None, List, replicate, get_or, IsTrue, IsSome, arith, ap₂, option_to_list, [], map, ⊎_elim, IfSome, length-set, get_or-set_same, get_or-set_other, fold, cases_lt, length-replicate, same_Some, Meaning, DiskFaultEnds, Held, Fits, slot, is_taken, number_of, word_of, word_from_number, number_from_word, number_below, prop_bytes, is_prop, PropSlot, FreeProp, Limits, Property, property_by, property_slots, some_number, word_in, insert_key, Among, among_map, map_among, among_flat_map, Filed, AxiomSlot, FreeAxiom, Pair, among_from_has_word, among_set_of, sorted_set_of, Metadata, bit_of, pair_by, pair_told, axioms_of, bytes_told, file_told, declared_there, there_declared, words_in, word_at, both_ways, get_or_past, has_word, flat_map_among, has_word_from_among, set_of_among, set_of, File, pair_cmp, file_of_record}
+use Rattle.lis_open.proofs.Common.{rules, ◌≡◌, ◌∙◌, refl, sym, ap, subst, inl, ℕ, ◌+◌, ◌<◌, Bool, true, false, Option, Some, None, List, replicate, get_or, IsTrue, IsSome, arith, ap₂, option_to_list, [], map, ⊎_elim, IfSome, length-set, get_or-set_same, get_or-set_other, fold, cases_lt, length-replicate, same_Some, Meaning, DiskFaultEnds, Held, Fits, slot, is_taken, number_of, word_of, word_from_number, number_from_word, number_below, prop_bytes, is_prop, PropSlot, FreeProp, Limits, Property, property_by, property_slots, word_in, insert_key, Among, among_map, map_among, among_flat_map, Filed, AxiomSlot, FreeAxiom, Pair, among_from_has_word, among_set_of, sorted_set_of, Metadata, bit_of, pair_by, pair_told, axioms_of, bytes_told, file_told, declared_there, there_declared, words_in, word_at, both_ways, get_or_past, has_word, flat_map_among, has_word_from_among, set_of_among, set_of, File, pair_cmp, file_of_record}
 use Rattle.lis_open.proofs.Once.{each_number}
 use Rattle.std.proofs.lemmas.List.{get_or-replicate}
-use Rattle.lis_dict.specs.Dict.{Dict, IsDict, HasWords, IsAgain, IsFirstAgain}
+use Rattle.lis_graph.specs.Again.{IsAgain, IsFirstAgain}
+use Rattle.lis_dict.specs.Dict.{Dict, IsDict, HasWords}
 use Rattle.lis_fields.specs.declared.slots.PropSlot.TheVariants.{Known, Declared}
 use Rattle.lis_kept.specs.Metadata.{property_at}
 use Rattle.lis_store.proofs.Spelled.{word_by, declared_by as declared_by_slot}
@@ -91,12 +92,12 @@ ended_at limits at slots end found spelled none read = record { spelled = spelle
 -- ---- the words, sorted
 module _ (limits : Limits) (slots : WordSlots) (end : ℕ) (first : AreFirstSlots limits slots end) (d : Dict) (kept : IsDict d) (has : HasWords d slots.unsorted) where
   -- no word has two numbers
-  pub none_again : (n : ℕ) → IsAgain slots.unsorted n → ⊥
+  pub none_again : (n : ℕ) → IsAgain (λ (word : List ℕ). word) slots.unsorted n → ⊥
   none_again n again =
-      let here = number_from_word d kept again.1 n (has.1 n ∙ again.4) in
-      let there = number_from_word d kept again.1 again.0 (has.1 again.0 ∙ again.3) in
+      let here = number_from_word d kept again.2 n (has.1 n ∙ again.5) in
+      let there = number_from_word d kept again.2 again.0 (has.1 again.0 ∙ (again.4 ∙ ap (λ w. Some w) again.6)) in
       let same : n ≡ again.0 = same_Some n again.0 (sym here ∙ there) in
-      omega (arith, again.2, same)
+      omega (arith, again.3, same)
 
 -- ---- the checks of slots
 module _ (limits : Limits) (at : ℕ → List ℕ) (slots : WordSlots) (end : ℕ) (first : AreFirstSlots limits slots end) (spelled : SlotsAreSpelled limits at slots end) where
@@ -115,36 +116,38 @@ module _ (limits : Limits) (at : ℕ → List ℕ) (slots : WordSlots) (end : �
   word_is n w lt has = sym (word_by (slot_word slots n) (is_taken slots.declared n)) ∙ (ap word_in (one_property limits at n (property_read slots n) has.property (property_is n lt) has.is) ∙ has.has)
 
   -- of the slots below the end, those fail whose word is there again
-  fails_again : (n : ℕ) → n < end → PropertyFails limits at n → IsAgain slots.unsorted n
+  fails_again : (n : ℕ) → n < end → PropertyFails limits at n → IsAgain (λ (word : List ℕ). word) slots.unsorted n
   fails_again n lt fails =
       let found = fails.fault (property_read slots n) (property_is n lt) in (
         found.earlier,
         found.word,
+        found.word,
         found.before,
         word_is found.earlier found.word (omega (arith, found.before, lt)) found.there,
         sym (word_by (slot_word slots n) (is_taken slots.declared n)) ∙ found.has,
+        refl,
       )
 
-  again_fails : (n : ℕ) → IsAgain slots.unsorted n → PropertyFails limits at n
+  again_fails : (n : ℕ) → IsAgain (λ (word : List ℕ). word) slots.unsorted n → PropertyFails limits at n
   again_fails n again =
-      let lt = number_read n again.1 again.4 in
+      let lt = number_read n again.2 again.5 in
       record {
         below = omega (arith, lt, first.within);
         fault = λ property is. record {
-          word = again.1;
-          has = ap word_in (one_property limits at n property (property_read slots n) is (property_is n lt)) ∙ (word_by (slot_word slots n) (is_taken slots.declared n) ∙ again.4);
+          word = again.2;
+          has = ap word_in (one_property limits at n property (property_read slots n) is (property_is n lt)) ∙ (word_by (slot_word slots n) (is_taken slots.declared n) ∙ again.5);
           earlier = again.0;
-          before = again.2;
-          there = its_word again.0 again.1 again.3;
+          before = again.3;
+          there = its_word again.0 again.2 (again.4 ∙ ap (λ w. Some w) again.6);
         };
       }
 
-  pub first_again : (n : ℕ) → IsFirstAgain slots.unsorted n → IsFirst limits at 2 (Property n)
+  pub first_again : (n : ℕ) → IsFirstAgain (λ (word : List ℕ). word) slots.unsorted n → IsFirst limits at 2 (Property n)
   first_again n least = record {
     fails = again_fails n least.again;
     is = refl;
     none_before = none_before limits at 2 n (λ m lt fails.
-        least.first m lt (fails_again m (omega (arith, lt, number_read n least.again.1 least.again.4)) fails));
+        least.first m lt (fails_again m (omega (arith, lt, number_read n least.again.2 least.again.5)) fails));
   }
 
   module _ (d : Dict) (kept : IsDict d) (has : HasWords d slots.unsorted) where

@@ -1,15 +1,14 @@
 //! The axioms of an image: its axiom slots, and the links that its words have.
 
-ghost use Rattle.std.specs.Prelude.{◌≡◌, ◌≢◌, ◌<◌, ℕ, List, false, Some, IsTrue, IfOk, IfSome, OnOk};
+ghost use Rattle.std.specs.Prelude.{◌≡◌, ◌<◌, ℕ, List, false, Some, IsTrue, IfOk, IfSome, OnOk};
 ghost use Rattle.std.specs.Bool.{OnTrue, OnFalse};
 ghost use Rattle.lis_ports.specs.Calls.{ReadsDisk};
 ghost use Rattle.lis_journal.specs.Images.{Fits};
 ghost use Rattle.lis_dict.specs.Dict.{word_of};
-ghost use Rattle.lis_taxonomy.specs.Taxonomy.{has_edge, edge_count, edge_room, empty_taxonomy};
+ghost use Rattle.lis_taxonomy.specs.Taxonomy.{empty_taxonomy};
 ghost use Rattle.lis_fields.specs.Layouts.{axiom_bytes, is_axiom};
 ghost use Rattle.lis_model.specs.Ranges.{are_stored};
 ghost use Rattle.lis_kept.specs.Areas.{axiom_slots};
-ghost use Rattle.lis_kept.specs.Edges.{with_edge_to};
 ghost use Rattle.lis_open.specs.Reading.{Recalls, IsReadAs, Ends, ReadsPart, IsReadable};
 ghost use Rattle.lis_open.specs.ReadWords.{AreNoAxioms, AreWords, AreFirstWords, WordsAreSpelled, head_by, LinksHeads, LinksTests, are_sides, TakesPair, TakesAxiom, RefusesPair, RefusesAxiom, AreFirstAxioms, AxiomsAreSpelled};
 
@@ -19,7 +18,7 @@ use crate::naming::{is_left, is_right};
 use crate::words::Words;
 use lis_fields::{AxiomSlot, read_axiom};
 use lis_journal::Journal;
-use lis_kept::{axioms_start, link_next};
+use lis_kept::{axioms_start, link_head, link_next};
 use lis_limits::{AXIOM_LEN, AXIOMS_PER_BLOCK};
 use lis_model::limits::Limits;
 use lis_model::spot::Spot;
@@ -68,24 +67,6 @@ pub fn head_number(words: &Words, number: u32) -> Option<u32>
     let word = words.dict.word_of(number)?;
     let head = head_of(&word)?;
     words.dict.id_of(&head)
-}
-
-// Adds the edge from a number without edges to that of its head, if it has one.
-fn link_head(taxonomy: &mut Taxonomy, number: u32, head: Option<u32>)
-    requires number { number < taxonomy.old.props }
-    requires head { IfSome head (λ h. h < taxonomy.old.props) }
-    requires apart { head ≢ Some number }
-    requires to { IfSome head (λ h. (x : ℕ) → has_edge taxonomy.old x number ≡ false) }
-    requires from { (x : ℕ) → has_edge taxonomy.old number x ≡ false }
-    requires room { edge_count taxonomy.old < edge_room taxonomy.old.props }
-    ensures { taxonomy.new ≡ with_edge_to taxonomy.old number head }
-{
-    let Some(head) = head else {
-        return;
-    };
-    let Ok(()) = taxonomy.add(number, head) else {
-        unreachable!()
-    };
 }
 
 // Links each valued word to its head, if the head has a number.

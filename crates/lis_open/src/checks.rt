@@ -158,10 +158,7 @@ fn is_row(ext: &Ext, limits: &Limits, number: u32, bytes: &[u8]) -> bool
     if number >= limits.props {
         return are_zeros(bytes);
     }
-    let mut row = [0; MAX_ROW];
-    let row = &mut row[..bytes.len()];
-    ext.row_bytes(number, row);
-    *row == *bytes
+    ext.has_row_bytes(number, bytes)
 }
 
 // Whether row slot p is spelled as memory requires.

@@ -19,7 +19,7 @@ ghost use Rattle.lis_kept.specs.Areas.{file_slots, axiom_slots};
 ghost use Rattle.lis_kept.specs.Telling.{bit_of};
 ghost use Rattle.lis_open.specs.Reading.{Recalls, IsReadAs, ReadsPart, IsReadable};
 ghost use Rattle.lis_open.specs.ReadWords.{AreWords, declared_words, AreFirstWords, AreFirstAxioms, WordsAreSpelled, AxiomsAreSpelled};
-ghost use Rattle.lis_open.specs.ReadFiles.{no_files, Gathered, AreListed, found_words, numbers_of, is_numbered, AreDescribed, is_assignable_number, TakesNumbers, TakesRecord, TakesFile, RecordFault, HasSlotFault, AreFirstRecords, RecordsEnded, AreFiles, FilesEnded, IsFreeSlot};
+ghost use Rattle.lis_open.specs.ReadFiles.{no_files, Gathered, AreListed, found_words, numbers_of, is_numbered, AreDescribed, TakesNumbers, TakesRecord, TakesFile, RecordFault, HasSlotFault, AreFirstRecords, RecordsEnded, AreFiles, FilesEnded, IsFreeSlot};
 ghost use Rattle.lis_model.specs.Sets.{are_distinct};
 
 use crate::axioms::Axioms;

@@ -81,12 +81,23 @@ fn has_declared_head(words: &Words, word: &Word) -> bool
     }
 }
 
-// Whether the word may be assigned to files.
-fn is_assignable(words: &Words, word: &Word) -> bool
-    requires { AreWords words.now }
+// Whether the word of a number is declared. The flag of the number tells it without a search.
+fn is_flagged(words: &Words, word: &Word, number: u32) -> bool
+    requires are { AreWords words.now }
+    requires number { word_of words.now.dict number ≡ Some word.now }
+    ensures { result ≡ has_word (declared_words words.now) word.now }
+{
+    words.declared.get(number)
+}
+
+// Whether the word of a number may be assigned to files.
+fn is_assignable(words: &Words, word: &Word, number: u32) -> bool
+    requires are { AreWords words.now }
+    requires number { word_of words.now.dict number ≡ Some word.now }
     ensures { result ≡ is_assignable (declared_words words.now) word.now }
 {
-    (is_plain_word(word.bytes()) && is_declared(words, word)) || has_declared_head(words, word)
+    (is_plain_word(word.bytes()) && is_flagged(words, word, number))
+        || has_declared_head(words, word)
 }
 
 /// Whether an axiom may have the word of a number as its right side.
@@ -147,7 +158,7 @@ fn is_assignable_number(words: &Words, number: u32) -> bool
 {
     match words.dict.word_of(number) {
         None => false,
-        Some(word) => is_assignable(words, &word),
+        Some(word) => is_assignable(words, &word, number),
     }
 }
 

@@ -125,12 +125,12 @@ fn read_parts<D: Disk>(
     disk: &mut D,
     journal: &Journal,
     limits: &Limits,
-    slots: WordSlots,
+    word_slots: WordSlots,
     file_slots: FileSlots,
     memory: &mut LaterMemory,
 ) -> Result<(Words, Files), OpenFault>
     requires readable { IsReadable limits.now journal.now (D.meaning disk.old) }
-    requires slots { slots ≡ no_words limits.now }
+    requires word_slots { word_slots ≡ no_words limits.now }
     requires file_slots { file_slots ≡ no_files limits.now }
     requires memory { IsEmptyLater limits.now memory.old }
     ensures marks { memory.new.marks ≡ memory.old.marks }
@@ -140,7 +140,7 @@ fn read_parts<D: Disk>(
         → AllEnded limits.now kept memory.new.axioms result }
 {
     let mut last = LastBlock::new();
-    let words = read_words(&mut last, disk, journal, limits, slots)?;
+    let words = read_words(&mut last, disk, journal, limits, word_slots)?;
     match read_later(&mut last, disk, journal, limits, &words, file_slots, memory) {
         Ok(files) => Ok((words, files)),
         Err(fault) => {

@@ -1,16 +1,16 @@
 -- A view that is put back unchanged leaves the state.
-use Rattle.std.proofs.Common.{◌≡◌, ℕ, ◌+◌, ◌≤◌, ◌==◌, nat_lt, nat_le, Bool, true, false, not, ◌&&◌, ◌||◌, cond, List, [], ◌∷◌, length, filter, Result, Ok, Err, refl, ap, sym, ◌∙◌, inl, inr, arith}
-use Rattle.std.specs.declared.cmp.Ordering.{Ordering}
+use Rattle.std.proofs.Common.{◌≡◌, ℕ, ◌+◌, ◌≤◌, ◌==◌, nat_lt, nat_le, Bool, true, false, not, ◌&&◌, ◌||◌, cond, List, [], ◌∷◌, length, filter, Result, Ok, Err, refl, ap, sym, ◌∙◌, inl, arith}
 use Rattle.std.specs.declared.cmp.Ordering.TheVariants.{Less, Equal, Greater}
 use Rattle.std.specs.Ordering.{ordering_reverse, is_lt, match_ordering}
 use Rattle.std.specs.BTreeSet.{insert_key}
 use Rattle.std.specs.Cmp.{tied_itself}
-use Rattle.std.specs.List.{list_all, list_any}
-use Rattle.std.proofs.lemmas.Bool.{and_parts, and_from, false_from_ne_true, not_from_true, both_ways, leb-true, le-leb, le-ltb, ltb-true}
+use Rattle.std.specs.List.{list_all}
+use Rattle.std.proofs.lemmas.Bool.{and_parts, false_from_ne_true, not_from_true, leb-true, le-leb, le-ltb, ltb-true}
 use Rattle.lis_graph.specs.Graph.{is_rising}
 use Rattle.lis_graph.proofs.Members.{Among, any_from_among, among_from_any, filter_among, map_among}
 use Rattle.lis_words.specs.Words.{word_cmp, same_word}
-use Rattle.lis_dict.proofs.Places.{filter_all}
+use Rattle.lis_graph.proofs.Filters.{filter_all}
+use Rattle.lis_graph.proofs.Sets.{less_from}
 use Rattle.lis_grammar.specs.Formula.{Formula}
 use Rattle.lis_model.specs.declared.refusal.Refusal.{Refusal}
 use Rattle.lis_model.specs.declared.refusal.Refusal.TheVariants.{NoFileHere, LargeDescription, LargeFile, NoPropertyRoom, NoSpace}
@@ -29,7 +29,6 @@ use Rattle.lis_laws.proofs.Named.{file_of_name, file_of_there}
 use Rattle.lis_store.specs.Retagging.{place_or_refusal}
 use Rattle.lis_views.specs.Views.{view_of}
 use Rattle.lis_views.specs.Edits.{back_of}
-use Rattle.lis_views.specs.Edits.Back.{Content}
 use Rattle.lis_views.proofs.Edits.{unchanged_stays}
 use Rattle.lis_session.specs.Parts.{only_shows}
 use Rattle.lis_session.specs.Session.{root_of}
@@ -37,17 +36,9 @@ use Rattle.lis_parts.specs.Commands.{formula_of, done_of, bytes_of, put_as}
 use Rattle.lis_parts.specs.Laws.{lacks_space, space_line, LeavesState, UnchangedViewLeaves}
 
 -- ---- a file that is removed from a list and inserted again
-is_below : (a b : File) → is_lt (file_cmp a b) ≡ true → file_cmp a b ≡ Less
-is_below a b is = by (file_cmp a b) is
-  where
-    by : (r : Ordering) → is_lt r ≡ true → r ≡ Less
-    by Less e = refl
-    by Equal e = absurd cc
-    by Greater e = absurd cc
-
 module _ (file : File) (files : List File) (below : list_all (λ other. is_lt (file_cmp file other)) files ≡ true) where
   first_below : (other : File) → Among files other → file_cmp file other ≡ Less
-  first_below other there = is_below file other (all_among (λ other. is_lt (file_cmp file other)) files other below there)
+  first_below other there = less_from (file_cmp file other) (all_among (λ other. is_lt (file_cmp file other)) files other below there)
 
   -- no other file has its name
   first_alone : (name : List ℕ) → file.name ≡ name → (other : File) → Among files other → not (same_word other.name name) ≡ true

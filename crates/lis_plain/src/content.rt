@@ -1,44 +1,15 @@
 //! The bytes of files, and the blocks that they take.
 
 ghost use Rattle.std.specs.Prelude.{◌≡◌, ◌-◌, ◌++◌, map, sum, length, OnOk, IfOk};
-ghost use Rattle.lis_model.specs.State.{File, file_limit, blocks_needed, blocks_taken};
+ghost use Rattle.lis_model.specs.State.{File, blocks_taken};
 ghost use Rattle.lis_model.specs.Replies.{content_lines, ok_line, number_line};
 ghost use Rattle.lis_model.specs.Changes.{file_of};
 
 use crate::file::File;
 use itoa::Buffer;
-use lis_limits::{BLOCK_LEN, MAX_FILE, MAX_LARGE_FILE};
+use lis_model::limits::blocks_taken;
 use lis_words::Name;
 use std::alloc::{AllocError, Global};
-
-/// How many bytes a file of the version may have.
-pub fn file_limit(version: u32) -> u64
-    ensures { result ≡ file_limit version }
-{
-    if version == 2 {
-        u64::from(MAX_LARGE_FILE)
-    } else {
-        u64::from(MAX_FILE)
-    }
-}
-
-/// How many blocks this many bytes take.
-fn blocks_needed(bytes: u64) -> u64
-    ensures { result ≡ blocks_needed bytes }
-{
-    bytes.div_ceil(BLOCK_LEN as u64)
-}
-
-/// How many blocks a file of this many bytes takes.
-pub fn blocks_taken(version: u32, bytes: u64) -> u64
-    ensures { result ≡ blocks_taken version bytes }
-{
-    let needed = blocks_needed(bytes);
-    if version == 2 && needed > 16 {
-        return needed + 1;
-    }
-    needed
-}
 
 /// How many blocks no file takes; 0 if the files take more than there are.
 pub fn free_blocks(version: u32, blocks: u32, files: &[File]) -> u64

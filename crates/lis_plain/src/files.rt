@@ -7,7 +7,7 @@ ghost use Rattle.lis_model.specs.Changes.{new_file, file_of};
 ghost use Rattle.lis_model.specs.Step.{is_here, free_blocks, exceeds_file, blocks_for, here_checks, create_checks, create_with, create, add_checks, add_with, add, write_checks, write_with, write, mv_checks, mv_with, mv, rename_checks, rename_with, rename, rm, assigned_at, retagged, tags_at};
 ghost use Rattle.lis_plain.specs.Carries.{IsAnswered, Judges};
 
-use crate::content::{blocks_taken, file_limit, free_blocks};
+use crate::content::free_blocks;
 use crate::file::{File, file_of, new_file};
 use crate::made::{file_added, file_removed, file_replaced};
 use crate::plain::{Answer, Plain};
@@ -18,6 +18,7 @@ use crate::table::all_entries;
 use lis_formula::{FormulaFault, resolve};
 use lis_line::reader::Payload;
 use lis_model::command::Tags;
+use lis_model::limits::{blocks_taken, file_limit};
 use lis_model::refusal::Refusal;
 use lis_place::{Place, Text};
 use lis_table::listing::has_entry;
@@ -52,7 +53,7 @@ impl Plain {
     fn is_large(&self, size: u64) -> bool
         ensures { result ≡ exceeds_file self.now.state size }
     {
-        size > file_limit(self.state().limits.version)
+        size > file_limit(&self.state().limits)
     }
 
     fn blocks_taken(&self, size: u64) -> u64
@@ -66,7 +67,7 @@ impl Plain {
         ensures { result ≡ blocks_for self.now.state old.now }
     {
         let free = u128::from(self.free_blocks());
-        if self.state().limits.version == 2 {
+        if self.state().limits.version != 1 {
             return free;
         }
         free + u128::from(self.blocks_taken(old.bytes.len() as u64))

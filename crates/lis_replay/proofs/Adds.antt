@@ -7,7 +7,7 @@ use Rattle.std.specs.BTreeSet.{insert_key}
 use Rattle.std.proofs.lemmas.Bool.{false_from_ne_true, not_from_true, leb-true, ltb-true}
 use Rattle.std.proofs.lemmas.List.{take-append-drop, length-take}
 use Rattle.lis_graph.specs.Graph.{is_rising}
-use Rattle.lis_graph.proofs.Members.{Among, among_from_any, among_left, among_right, among_insert_key}
+use Rattle.lis_graph.proofs.Members.{Among, among_from_any, among_left, among_right, among_take, among_insert_key}
 use Rattle.lis_words.specs.Words.{word_cmp, same_word, is_built_in}
 use Rattle.lis_model.specs.declared.command.Command.TheVariants.{Add}
 use Rattle.lis_model.specs.State.{State, File, WellFormed, is_assignable, file_cmp, file_limit, blocks_taken, used_blocks}
@@ -24,7 +24,7 @@ use Rattle.lis_replay.proofs.Rising.{rising_front, front_below, insert_behind, i
 use Rattle.lis_replay.proofs.Led.{said_ok, not_refused}
 use Rattle.lis_replay.proofs.Lower.{IsBarer, barer_itself, IsLower, room_known, room_words}
 use Rattle.lis_replay.proofs.Mkdirs.{with_these, at_root}
-use Rattle.lis_replay.proofs.Lists.{none_any, among_take, sum_at}
+use Rattle.lis_replay.proofs.Lists.{none_any, sum_at}
 use Rattle.lis_replay.proofs.Given.{IsGiven, given_words}
 
 -- a payload of these bytes

@@ -4,7 +4,7 @@ use Rattle.std.specs.List.{list_all}
 use Rattle.std.proofs.lemmas.Bool.{and_parts, or_cases, or_left, or_right, false_from_ne_true, leb-true, le-leb, ltb-true}
 use Rattle.std.proofs.lemmas.Fmt.{length-decimal-le}
 use Rattle.std.proofs.lemmas.List.{length-take, length-drop}
-use Rattle.lis_graph.proofs.Members.{Among}
+use Rattle.lis_graph.proofs.Members.{Among, among_take}
 use Rattle.lis_words.specs.Words.{has_word, head_bytes, is_plain_word, is_head, is_valued, is_word, is_test, is_property, is_file_name}
 use Rattle.lis_words.proofs.Tests.{property_short, word_is_property}
 use Rattle.lis_grammar.proofs.Printed.{decimal_count, decimal_value}
@@ -19,7 +19,7 @@ use Rattle.lis_laws.proofs.Apart.{Declarable, declarable_cases}
 use Rattle.lis_laws.proofs.Apart.Declarable.{Plain, Test, Head}
 use Rattle.lis_laws.proofs.Sources.{rights_are, right_plain}
 use Rattle.lis_replay.specs.Dump.{joined_with, mkdir_line, axiom_line, first_words, other_words, add_lines, mv_lines, file_lines}
-use Rattle.lis_replay.proofs.Lists.{among_take, among_drop}
+use Rattle.lis_replay.proofs.Lists.{among_drop}
 use Rattle.lis_replay.proofs.Joined.{behind, joined_short}
 use Rattle.lis_replay.proofs.Given.{given_words}
 use Rattle.lis_replay.proofs.Mkdirs.{mkdir_item}

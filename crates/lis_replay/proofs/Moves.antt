@@ -5,6 +5,7 @@ use Rattle.std.specs.List.{list_any, list_all}
 use Rattle.std.proofs.lemmas.Bool.{false_from_ne_true, not_from_true, leb-true, ltb-true}
 use Rattle.std.proofs.lemmas.List.{take-append-drop, length-drop}
 use Rattle.lis_graph.specs.Graph.{is_rising}
+use Rattle.lis_graph.proofs.Filters.{filter_all}
 use Rattle.lis_graph.proofs.Members.{Among, among_append, among_right, any_from_among, filter_among, map_among}
 use Rattle.lis_words.specs.Words.{word_cmp, same_word, has_word, is_head, is_built_in}
 use Rattle.lis_grammar.specs.Formula.{Formula}
@@ -28,7 +29,7 @@ use Rattle.lis_replay.proofs.Rising.{rising_back, insert_behind, insert_all_next
 use Rattle.lis_replay.proofs.Led.{said_ok, not_refused}
 use Rattle.lis_replay.proofs.Lower.{barer_itself, IsLower, room_known, room_words}
 use Rattle.lis_replay.proofs.Mkdirs.{at_root}
-use Rattle.lis_replay.proofs.Lists.{filter_all, none_any, among_drop}
+use Rattle.lis_replay.proofs.Lists.{none_any, among_drop}
 use Rattle.lis_replay.proofs.Given.{IsGiven, given_words}
 use Rattle.lis_replay.proofs.Paths.{IsPath, steps_for, path_leads, path_names, path_has, path_tags}
 use Rattle.lis_replay.proofs.Adds.{begun, by_files, IsNext, name_new, files_lower}

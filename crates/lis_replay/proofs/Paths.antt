@@ -5,6 +5,7 @@ use Rattle.std.specs.List.{flat_map}
 use Rattle.std.proofs.lemmas.Bool.{false_from_ne_true, ltb-true}
 use Rattle.std.proofs.lemmas.List.Sums.{sum_by-cons}
 use Rattle.lis_graph.specs.Graph.{is_rising}
+use Rattle.lis_graph.proofs.Filters.{filter_all}
 use Rattle.lis_graph.proofs.Members.{Among}
 use Rattle.lis_words.specs.Words.{word_cmp, same_word}
 use Rattle.lis_words.proofs.Tests.{property_short, word_is_property}
@@ -25,7 +26,6 @@ use Rattle.lis_laws.proofs.Members.{word_order, same_word_decides}
 use Rattle.lis_replay.specs.Dump.{joined_with}
 use Rattle.lis_replay.proofs.Rising.{insert_all_next}
 use Rattle.lis_replay.proofs.Joined.{joined_short}
-use Rattle.lis_replay.proofs.Lists.{filter_all}
 use Rattle.lis_replay.proofs.Given.{IsGiven, given_tag}
 
 -- the step of each word

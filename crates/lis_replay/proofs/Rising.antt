@@ -1,7 +1,7 @@
 -- Rising lists: what is above all members is inserted after them.
 use Rattle.std.proofs.Common.{◌≡◌, true, List, [], ◌∷◌, ◌++◌, refl, sym, ap, subst, ◌∙◌, inl, inr, append_assoc, append-nil}
 use Rattle.std.specs.declared.cmp.Ordering.{Ordering}
-use Rattle.std.specs.declared.cmp.Ordering.TheVariants.{Less, Equal, Greater}
+use Rattle.std.specs.declared.cmp.Ordering.TheVariants.{Less, Greater}
 use Rattle.std.specs.Ordering.{ordering_reverse, is_lt}
 use Rattle.std.specs.Cmp.{IsTotalOrder, tied_itself}
 use Rattle.std.specs.BTreeSet.{insert_key}
@@ -10,17 +10,10 @@ use Rattle.std.proofs.lemmas.Bool.{and_parts, and_from}
 use Rattle.std.proofs.lemmas.List.Folds.{list_all-append}
 use Rattle.lis_graph.specs.Graph.{is_rising, with_more}
 use Rattle.lis_graph.proofs.Members.{Among, among_right}
+use Rattle.lis_graph.proofs.Sets.{less_from}
 use Rattle.lis_laws.proofs.Counts.{all_among}
 
 module _ {K : Type 0} (cmp : K → K → Ordering) (order : IsTotalOrder cmp) where
-  less_from_test : (x y : K) → is_lt (cmp x y) ≡ true → cmp x y ≡ Less
-  less_from_test x y h = by (cmp x y) h
-    where
-      by : (r : Ordering) → is_lt r ≡ true → r ≡ Less
-      by Less e = refl
-      by Equal e = absurd cc
-      by Greater e = absurd cc
-
   -- each prefix and each suffix of a rising list rises
   pub rising_front : (xs ys : List K) → is_rising cmp (xs ++ ys) ≡ true → is_rising cmp xs ≡ true
   rising_front [] ys h = refl
@@ -37,7 +30,7 @@ module _ {K : Type 0} (cmp : K → K → Ordering) (order : IsTotalOrder cmp) wh
   pub front_below : (xs ys : List K) (x y : K) → is_rising cmp (xs ++ ys) ≡ true → Among xs x → Among ys y → cmp x y ≡ Less
   front_below [] ys x y h m n = absurd m
   front_below (z ∷ xs) ys x y h (inl same) n =
-      less_from_test x y (all_among (λ k. is_lt (cmp x k)) (xs ++ ys) y (subst (λ (k : K). list_all (λ l. is_lt (cmp k l)) (xs ++ ys) ≡ true) same (and_parts _ _ h).0) (among_right xs ys y n))
+      less_from (cmp x y) (all_among (λ k. is_lt (cmp x k)) (xs ++ ys) y (subst (λ (k : K). list_all (λ l. is_lt (cmp k l)) (xs ++ ys) ≡ true) same (and_parts _ _ h).0) (among_right xs ys y n))
   front_below (z ∷ xs) ys x y h (inr m) n = front_below xs ys x y (and_parts _ _ h).1 m n
 
   -- so it is none of them

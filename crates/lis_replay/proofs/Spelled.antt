@@ -1,9 +1,10 @@
 -- Which items a text spells, and that a line of words is read back to its words.
-use Rattle.std.proofs.Common.{◌≡◌, ℕ, ◌<◌, ◌≤◌, ◌==◌, nat_le, Bool, true, false, ◌||◌, Option, Some, None, List, [], ◌∷◌, ◌++◌, length, filter, refl, sym, ap, ◌∙◌, inl, inr, append_assoc, append-nil, length-append, arith}
+use Rattle.std.proofs.Common.{◌≡◌, ℕ, ◌≤◌, ◌==◌, nat_le, Bool, true, false, ◌||◌, Option, Some, None, List, [], ◌∷◌, ◌++◌, length, filter, refl, sym, ap, ◌∙◌, inl, inr, append_assoc, append-nil, length-append, arith}
 use Rattle.std.specs.Option.{option_to_list}
 use Rattle.std.specs.List.{list_all, flat_map}
 use Rattle.std.proofs.lemmas.Bool.{and_parts, false_from_ne_true, ltb-true}
 use Rattle.std.proofs.lemmas.Bool.Decides.{nat_tests}
+use Rattle.lis_graph.proofs.Filters.{filter_all}
 use Rattle.lis_graph.proofs.Members.{Among}
 use Rattle.lis_model.specs.Replies.{line}
 use Rattle.lis_model.specs.Step.{Item, no_payload}
@@ -11,10 +12,11 @@ use Rattle.lis_model.specs.Script.{pieces_on, line_words, is_long, item_of_words
 use Rattle.lis_model.proofs.Lines.{IsOneLine, all_items_of, line_alone, line_with, with_payload}
 use Rattle.lis_laws.proofs.Counts.{all_among, all_weaker}
 use Rattle.lis_replay.specs.Dump.{joined_with, words_line}
-use Rattle.lis_replay.proofs.Lists.{filter_all, none_any}
+use Rattle.lis_replay.proofs.Lists.{none_any}
 use Rattle.lis_replay.proofs.Joined.{behind, joined_all}
 use Rattle.lis_replay.proofs.Visible.{is_visible, IsVisible}
 use Rattle.lis_words.specs.Bytes.{is_feed, is_blank, is_some_bytes, without_return}
+use Rattle.lis_words.proofs.Bytes.{some_bytes}
 
 -- in front of any other text it gives these items
 abbrev pub Spells : List ℕ → List Item → Type 0
@@ -31,10 +33,6 @@ pub spells_all : {A : Type 0} (text : A → List ℕ) (items : A → List Item) 
 spells_all text items [] each = spells_nothing
 spells_all text items (x ∷ xs) each =
     spells_both (text x) (flat_map text xs) (items x) (flat_map items xs) (each x (inl refl)) (spells_all text items xs (λ y m. each y (inr m)))
-
-some_bytes : (text : List ℕ) → 0 < length text → is_some_bytes text ≡ true
-some_bytes [] some = absurd (omega arith)
-some_bytes (b ∷ text) some = refl
 
 -- ---- the words of a line
 visible_no_blank : (b : ℕ) → is_visible b ≡ true → is_blank b ≡ false

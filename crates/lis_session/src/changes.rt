@@ -1,6 +1,7 @@
 //! Commands that change the store.
 
-ghost use Rattle.std.specs.Prelude.{◌≡◌, ℕ, true};
+ghost use Rattle.std.specs.Prelude.{◌≡◌, true};
+ghost use Rattle.lis_model.specs.declared.limits.Limits.{Limits};
 ghost use Rattle.lis_model.specs.Step.{Situation, done};
 ghost use Rattle.lis_store.specs.Writes.{IsWhole, written};
 ghost use Rattle.lis_session.specs.Parts.{is_change};

@@ -1,34 +1,34 @@
 -- The forms of words of the command line.
-use Rattle.std.proofs.Common.{◌≡◌, ℕ, ◌<◌, ◌&&◌, not, cond, Bool, true, false, List, [], ◌∷◌, length, Option, Some, None, IsTrue, IfSome, codes, refl, arith, subst}
-use Rattle.std.specs.Option.{option_map}
+use Rattle.std.proofs.Common.{◌≡◌, ℕ, ◌<◌, ◌&&◌, not, cond, if◌then◌else◌, Bool, true, false, List, [], ◌∷◌, length, Option, Some, None, IsTrue, IfSome, codes, if◌then◌else◌, nat_le, refl, ap, arith, subst, ◌∙◌}
+use Rattle.std.specs.Option.{option_map, option_and_then}
 use Rattle.std.proofs.lemmas.Bool.{and_parts, and_from}
 use Rattle.lis_words.specs.Words.{same_word, is_count, count_of, is_file_name}
 use Rattle.lis_model.specs.declared.limits.Limits.{Limits}
-use Rattle.lis_model.specs.Ranges.{is_files_limit, is_props_limit, is_blocks_limit, is_version, are_stored}
+use Rattle.lis_model.specs.Ranges.{is_files_limit, is_props_limit, is_blocks_limit, is_version, are_in_range, are_stored}
 use Rattle.lis_shell.specs.declared.words.Task.{Task}
 use Rattle.lis_shell.specs.declared.words.Task.TheVariants.{Try, Make, Upgrade, OnImage}
 use Rattle.lis_shell.specs.declared.words.ImageTask.{ImageTask}
 use Rattle.lis_shell.specs.declared.words.ImageTask.TheVariants.{Run, Load, Rooms, Dump, Grow, View, Put}
-use Rattle.lis_shell.specs.Words.{limits_of, grow_number_of, limits_in, part_named, work_named, upgrade_alone, task_of, MakesInRange, name_in}
+use Rattle.lis_shell.specs.Words.{limits_of, grow_number_of, version_of, limits_in, stored_in, part_named, work_named, upgrade_alone, task_of, MakesInRange, name_in}
 
 -- ---- limits are in range
 held : (t : Bool) (all limits : Limits) → cond t (Some all) None ≡ Some limits → (t ≡ true) × (all ≡ limits)
 held true all limits e = (refl, (cc))
 held false all limits e = absurd (cc)
 
-limits_in_range : (version : ℕ) (files props blocks : List ℕ) (limits : Limits) → IsTrue (is_version version) → limits_of version files props blocks ≡ Some limits → IsTrue (are_stored limits)
+limits_in_range : (version : ℕ) (files props blocks : List ℕ) (limits : Limits) → IsTrue (is_version version) → limits_of version files props blocks ≡ Some limits → IsTrue (are_in_range limits)
 limits_in_range version files props blocks limits versioned e =
     let all : Limits = record { files = count_of files; props = count_of props; blocks = count_of blocks; version = version } in
-    let of_files : Bool = is_count files && is_files_limit (count_of files) in
-    let of_props : Bool = is_count props && is_props_limit (count_of props) in
-    let of_blocks : Bool = is_count blocks && is_blocks_limit (count_of blocks) in
+    let of_files : Bool = is_count files && is_files_limit version (count_of files) in
+    let of_props : Bool = is_count props && is_props_limit version (count_of props) in
+    let of_blocks : Bool = is_count blocks && is_blocks_limit version (count_of blocks) in
     let is = held (of_files && of_props && of_blocks) all limits e in
     let front = and_parts (of_files && of_props) of_blocks is.0 in
     let first = and_parts of_files of_props front.0 in
-    let range : IsTrue (are_stored all) = and_from _ (is_version version) (both (and_parts (is_count files) (is_files_limit (count_of files)) first.0).1
-    (and_parts (is_count props) (is_props_limit (count_of props)) first.1).1
-    (and_parts (is_count blocks) (is_blocks_limit (count_of blocks)) front.1).1) versioned in
-    subst (λ l. IsTrue (are_stored l)) is.1 range
+    let range : IsTrue (are_in_range all) = and_from _ (is_version version) (both (and_parts (is_count files) (is_files_limit version (count_of files)) first.0).1
+    (and_parts (is_count props) (is_props_limit version (count_of props)) first.1).1
+    (and_parts (is_count blocks) (is_blocks_limit version (count_of blocks)) front.1).1) versioned in
+    subst (λ l. IsTrue (are_in_range l)) is.1 range
   where
     both : {a b c : Bool} → a ≡ true → b ≡ true → c ≡ true → IsTrue (a && b && c)
     both e f g = cc
@@ -60,14 +60,42 @@ made : (words : List (List ℕ)) (found : Option Limits) → ((limits : Limits) 
 made words (Some limits) range = range limits refl
 made words None range = tt
 
-limits_are : (words : List (List ℕ)) (limits : Limits) → limits_in words ≡ Some limits → IsTrue (are_stored limits)
-limits_are (files ∷ props ∷ blocks ∷ []) limits e = limits_in_range 1 files props blocks limits refl e
-limits_are (files ∷ props ∷ blocks ∷ last ∷ []) limits e = by (same_word last (codes "v2")) e
+-- limits of each version that a word after them says are in range
+versions_are : (files props blocks last : List ℕ) (limits : Limits) → option_and_then (λ version. limits_of version files props blocks) (version_of last) ≡ Some limits
+    → IsTrue (are_in_range limits)
+versions_are files props blocks last limits e = two (same_word last (codes "v2")) e
   where
-    by : (t : Bool) → cond t (limits_of 2 files props blocks) None ≡ Some limits → IsTrue (are_stored limits)
-    by true e = limits_in_range 2 files props blocks limits refl e
-    by false e = absurd (cc)
+    three : (t : Bool) → option_and_then (λ version. limits_of version files props blocks) (cond t (Some 3) None) ≡ Some limits → IsTrue (are_in_range limits)
+    three true e = limits_in_range 3 files props blocks limits refl e
+    three false e = absurd (cc)
+
+    two : (t : Bool) → option_and_then (λ version. limits_of version files props blocks) (cond t (Some 2) (cond (same_word last (codes "v3")) (Some 3) None)) ≡ Some limits
+        → IsTrue (are_in_range limits)
+    two true e = limits_in_range 2 files props blocks limits refl e
+    two false e = three (same_word last (codes "v3")) e
+
+limits_are : (words : List (List ℕ)) (limits : Limits) → limits_in words ≡ Some limits → IsTrue (are_in_range limits)
+limits_are (files ∷ props ∷ blocks ∷ []) limits e = limits_in_range 1 files props blocks limits refl e
+limits_are (files ∷ props ∷ blocks ∷ last ∷ []) limits e = versions_are files props blocks last limits e
 limits_are words limits e = absurd (cc)
+
+-- those of an image are so by their definition
+stored : (words : List (List ℕ)) (limits : Limits) → stored_in words ≡ Some limits → IsTrue (are_stored limits)
+stored words limits e = by (limits_in words) e
+  where
+    within : (all : Limits) (t : Bool) → are_stored all ≡ t → cond t (Some all) None ≡ Some limits → IsTrue (are_stored limits)
+    within all true is e = subst (λ l. IsTrue (are_stored l)) (held true all limits e).1 is
+    within all false is e = absurd (cc)
+
+    by : (found : Option Limits) → option_and_then (λ all. if are_stored all then Some all else None) found ≡ Some limits → IsTrue (are_stored limits)
+    by (Some all) e = within all (are_stored all) refl e
+    by None e = absurd (cc)
+
+-- they are the limits of version 1 or 2
+pub stored_is : (words : List (List ℕ)) (limits : Limits) → limits_in words ≡ Some limits → stored_in words ≡ (if nat_le limits.version 2 then Some limits else None)
+stored_is words limits e =
+    ap (λ found. option_and_then (λ all. if are_stored all then Some all else None) found) e
+    ∙ ap (λ t. if t && nat_le limits.version 2 then Some limits else None) (limits_are words limits e)
 
 upgrades : (all words : List (List ℕ)) → IsAsked all (upgrade_alone words)
 upgrades all [] = tt
@@ -107,7 +135,7 @@ is_asked (word ∷ []) = tt
 is_asked (word ∷ second ∷ words) =
     let all : List (List ℕ) = word ∷ second ∷ words in
     either (IsAsked all) (same_word word (codes "try")) _ _ (mapped (IsAsked all) Try (λ limits. tt) tt (limits_in (second ∷ words)))
-    (either (IsAsked all) (same_word word (codes "make")) _ _ (made all (limits_in words) (limits_are words))
+    (either (IsAsked all) (same_word word (codes "make")) _ _ (made all (stored_in words) (stored words))
     (either (IsAsked all) (same_word word (codes "upgrade")) _ _ (upgrades all words) (on_image all (work_named word words) (work_is word second words))))
 
 pub makes_in_range : (words : List (List ℕ)) → IfSome (task_of words) MakesInRange

@@ -15,7 +15,7 @@ use Rattle.lis_limits.specs.declared.TheConstants.{BLOCK_LEN}
 abbrev pub limits_of : ℕ → List ℕ → List ℕ → List ℕ → Option Limits
 limits_of version files props blocks =
     if is_count files && is_files_limit version (count_of files) && (is_count props && is_props_limit version (count_of props))
-        && (is_count blocks && is_blocks_limit version (count_of blocks))
+    && (is_count blocks && is_blocks_limit version (count_of blocks))
     then Some (record { files = count_of files; props = count_of props; blocks = count_of blocks; version = version })
     else None
 

@@ -128,7 +128,7 @@ fn carry_task<S: Source, T: Station>(
 /// - `try FILES PROPS BLOCKS` runs the commands of the input on a state that begins empty, and shows the replies. What the disk reads as,
 ///   and what a crash leaves of it, stays.
 /// - `make IMAGE FILES PROPS BLOCKS` makes an image of the empty state. It reads no input and shows nothing. With `v2` after the words of
-///   `try` or `make` the state is of version 2, and otherwise of version 1.
+///   `try` or `make` the state is of version 2, with `v3` after those of `try` of version 3, and otherwise of version 1.
 /// - `run IMAGE` opens the image, runs the commands of the input on it and shows the replies.
 /// - `load IMAGE` does the same with many changes in one commit. A reply is shown after the commit. Of the items whose changes the image
 ///   has, at most 256 have replies that were not shown whole.

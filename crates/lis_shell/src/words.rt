@@ -3,7 +3,7 @@
 ghost use Rattle.std.specs.Prelude.{◌≡◌, map, Some, IfSome};
 ghost use Rattle.std.specs.String.{string_bytes};
 ghost use Rattle.lis_words.specs.Words.{same_word};
-ghost use Rattle.lis_shell.specs.Words.{limits_of, grow_number_of, limits_in, work_alone, part_named, work_named, upgrade_alone, task_with, task_of, MakesInRange, length_for};
+ghost use Rattle.lis_shell.specs.Words.{limits_of, grow_number_of, version_of, limits_in, stored_in, work_alone, part_named, work_named, upgrade_alone, task_with, task_of, MakesInRange, length_for};
 
 use lis_limits::BLOCK_LEN;
 use lis_model::limits::{Limits, image_blocks, is_blocks_limit, is_files_limit, is_props_limit};
@@ -13,7 +13,7 @@ use lis_words::{read_count, read_name};
 const GROW_END: u64 = 1 << 31;
 
 /// The forms of the words, one on each line.
-pub const FORMS: &[u8] = b"lisfs try FILES PROPS BLOCKS [v2]
+pub const FORMS: &[u8] = b"lisfs try FILES PROPS BLOCKS [v2|v3]
 lisfs make IMAGE FILES PROPS BLOCKS [v2]
 lisfs run IMAGE
 lisfs load IMAGE
@@ -28,9 +28,10 @@ lisfs grow IMAGE N
 /// What the words of the command line request.
 #[derive(Clone, Copy, Debug, PartialEq, Eq)]
 pub enum Task {
-    /// `try FILES PROPS BLOCKS`, with or without `v2` after it: a session over a state that begins empty, of version 2 or 1.
+    /// `try FILES PROPS BLOCKS`, with or without `v2` or `v3` after it: a session over a state that begins empty, of that version or of
+    /// version 1.
     Try(Limits),
-    /// `make IMAGE FILES PROPS BLOCKS`, with or without `v2` after it: an empty image, of version 2 or 1.
+    /// `make IMAGE FILES PROPS BLOCKS`, with or without `v2` after it: an empty image, of version 2 or 1. No image has version 3.
     Make(Limits),
     /// `upgrade IMAGE`: an image of version 2.
     Upgrade,
@@ -69,13 +70,13 @@ fn limits_of(version: u32, files: &[u8], props: &[u8], blocks: &[u8]) -> Option<
     let files = read_count(files)?;
     let props = read_count(props)?;
     let blocks = read_count(blocks)?;
-    if !is_files_limit(files) {
+    if !is_files_limit(version, files) {
         return None;
     }
-    if !is_props_limit(props) {
+    if !is_props_limit(version, props) {
         return None;
     }
-    if !is_blocks_limit(blocks) {
+    if !is_blocks_limit(version, blocks) {
         return None;
     }
     Some(Limits {
@@ -96,6 +97,18 @@ fn grow_number_of(digits: &[u8]) -> Option<u32>
     Some(number as u32)
 }
 
+fn version_of(word: &String) -> Option<u32>
+    ensures { result ≡ version_of (string_bytes word.now) }
+{
+    if is_word(word, b"v2") {
+        return Some(2);
+    }
+    if is_word(word, b"v3") {
+        return Some(3);
+    }
+    None
+}
+
 fn limits_in(words: &[String]) -> Option<Limits>
     ensures { result ≡ limits_in (map string_bytes words.now) }
 {
@@ -104,13 +117,26 @@ fn limits_in(words: &[String]) -> Option<Limits>
             limits_of(1, files.as_bytes(), props.as_bytes(), blocks.as_bytes())
         }
         [files, props, blocks, last] => {
-            if !is_word(last, b"v2") {
-                return None;
-            }
-            limits_of(2, files.as_bytes(), props.as_bytes(), blocks.as_bytes())
+            let version = version_of(last)?;
+            limits_of(
+                version,
+                files.as_bytes(),
+                props.as_bytes(),
+                blocks.as_bytes(),
+            )
         }
         _ => None,
     }
+}
+
+fn stored_in(words: &[String]) -> Option<Limits>
+    ensures { result ≡ stored_in (map string_bytes words.now) }
+{
+    let limits = limits_in(words)?;
+    if limits.version > 2 {
+        return None;
+    }
+    Some(limits)
 }
 
 fn work_alone(word: &String) -> Option<ImageTask>
@@ -174,7 +200,7 @@ fn task_with(word: &String, words: &[String]) -> Option<Task>
     ensures { result ≡ task_with (string_bytes word.now) (map string_bytes words.now) }
 {
     if is_word(word, b"make") {
-        let limits = limits_in(words)?;
+        let limits = stored_in(words)?;
         return Some(Task::Make(limits));
     }
     if is_word(word, b"upgrade") {

@@ -6,7 +6,7 @@ use Rattle.lis_graph.proofs.Ranges.{among_range}
 use Rattle.lis_store.proofs.StoreSays.{file_of_filed, filed_of_file, number_of_known, size_of_filed}
 use Rattle.lis_store.specs.Closing.{is_entailed, is_gained, is_met_at, is_met_by, closure, wider}
 use Rattle.lis_store.specs.Testing.{is_crowded, has_crowded}
-use Rattle.lis_dict.proofs.Places.{among_at}
+use Rattle.lis_graph.proofs.Members.{among_at}
 use Rattle.lis_store.proofs.Measured.{numbers_apart, told_counted}
 use Rattle.lis_store.proofs.Closed.{led_had, led_itself, closure_told, closure_named}
 use Rattle.lis_store.proofs.Told.{length-with_word}

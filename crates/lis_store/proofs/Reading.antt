@@ -10,7 +10,7 @@ use Rattle.lis_content.specs.Large.{index_home, block_within}
 use Rattle.lis_model.specs.State.{blocks_needed}
 use Rattle.lis_kept.proofs.BlocksTaken.{slot_within}
 use Rattle.lis_store.specs.Stored.{Stored, IsSound, StoreFits, IsIndex}
-use Rattle.lis_dict.proofs.Places.{among_at}
+use Rattle.lis_graph.proofs.Members.{among_at}
 use Rattle.lis_store.proofs.Elsewhere.{numbers_counted}
 use Rattle.lis_store.proofs.FileBlocks.{content_told, content_among, content_counted}
 use Rattle.lis_store.proofs.StoreSays.{file_in_slot, told_below}

@@ -157,7 +157,7 @@ module _ (p : Metadata) (j mid : Held) (before : Meaning) (stages : Stages p j m
 -- ---- a commit of what is held back
 module _ {T : Type 0} (old : Stored) (q : Metadata) (x : Held) (b : Bool) (before after : Meaning) (result : Result T ChangeFault) (sound : IsSound old) (unbroken : old.is_broken ≡ false) (same : q ≡ old.metadata)
     (keeps : KeepsStaged old.journal x before after result) (idle : old.journal.staged ≡ [] → x ≡ old.journal) (ends : EndsUnrefused b result) where
-  -- nothing is placed behind a commit, and where there was none
+  -- nothing is placed after a commit, nor if there was nothing to commit
   none_after : (0 < length old.journal.staged → x.placed ≡ []) → x.placed ≡ []
   none_after some = by old.journal.staged idle some
     where

@@ -34,7 +34,7 @@ use Rattle.lis_store.proofs.Retaken.{settled_sound, in_form}
 use Rattle.lis_store.proofs.Vacated.{rec_there}
 use Rattle.lis_laws.proofs.Reached.{OneLink}
 use Rattle.lis_laws.proofs.Steps.{mkdir_fits}
-use Rattle.lis_dict.proofs.Places.{filter_all}
+use Rattle.lis_graph.proofs.Filters.{filter_all}
 use Rattle.lis_store.specs.declared.closing.Rebuild.TheVariants.{Meeting}
 use Rattle.lis_laws.proofs.Forms as forms
 use Rattle.lis_journal.specs.Journal.{shape_of}

@@ -34,7 +34,7 @@ EndsUnrefused is_broken (Ok done) = is_broken ≡ false
 EndsUnrefused is_broken (Err (Refused refusal)) = false ≡ true
 EndsUnrefused is_broken (Err Disk) = is_broken ≡ true
 
--- At each moment in the call the image stands for the old state or for the new one, and blocks past the image stay.
+-- At each moment in the call the image represents the old state or the new one, and blocks past the image stay.
 pub record Changes {T : Type 0} (now : Situation) (outcome : Outcome) (new : Stored) (before after : Meaning) (result : Result T ChangeFault) : Type 0 where
   pub moments : Leaves before after (λ image. Stands image now.state ⊎ Stands image outcome.next.state)
   pub past : KeepsPast (image_blocks now.state.limits) before after

@@ -3,14 +3,13 @@ use Rattle.std.proofs.Common.{◌≡◌, ◌⊎◌, ℕ, zero, suc, ◌<◌, ◌
 use Rattle.std.specs.List.{find, flat_map}
 use Rattle.std.specs.List.Sorted.{IsStrictlySortedBy}
 use Rattle.lis_graph.specs.Graph.{Linked, Chain}
-use Rattle.lis_graph.proofs.Members.{Among, among_from_contains, contains_from_among, among_flat_map, flat_map_among}
+use Rattle.lis_graph.proofs.Members.{Among, find_among, find_none, among_from_contains, contains_from_among, among_flat_map, flat_map_among}
 use Rattle.lis_words.specs.Words.{word_cmp, has_word}
 use Rattle.lis_model.specs.Sets.{with_words}
 use Rattle.lis_model.specs.State.{links, up, all_up}
 use Rattle.lis_laws.proofs.Members.{among_from_has_word, has_word_from_among, among_set_of, set_of_among, among_with_words, with_words_old, with_words_new, sorted_with_words, sorted_set_of, same_words}
 use Rattle.lis_laws.proofs.Chains.{Pairs, links_ordered, up_self, up_own, up_edge, entails_from_up, sorted_up}
 use Rattle.lis_laws.proofs.Closures.{entailing, entailed_in, all_up_closed, sorted_all_up}
-use Rattle.lis_laws.proofs.Routes.{find_among}
 use Rattle.lis_table.specs.Links.{with_links, all_linked, is_open}
 
 -- what the set keeps while it is widened
@@ -44,15 +43,6 @@ begun declared axioms words = record {
 }
 
 -- ---- the first that passes a test
-
-lacking : {A : Type 0} (test : A → Bool) (xs : List A) → find test xs ≡ None → (x : A) → Among xs x → test x ≡ false
-lacking test [] h x m = absurd m
-lacking {A} test (y ∷ ys) h x m = by (test y) refl h m (λ is deep. lacking test ys is x deep)
-  where
-    by : (b : Bool) → test y ≡ b → cond b (Some y) (find test ys) ≡ None → (y ≡ x) ⊎ Among ys x → (find test ys ≡ None → Among ys x → test x ≡ false) → test x ≡ false
-    by true e is at more = absurd cc
-    by false e is (inl same) more = ap test (sym same) ∙ e
-    by false e is (inr deep) more = more is deep
 
 opened : (a b : Bool) → (a && not b) ≡ true → (a ≡ true) × (b ≡ false)
 opened true true h = absurd cc
@@ -99,7 +89,7 @@ module _ (declared : List (List ℕ)) (axioms : Pairs) (words all : List (List �
       onward p r m (inl own) = c.owned p r m (among_from_contains (links declared p) r own)
       onward p r m (inr edge) =
           among_from_has_word all r
-          (shut (has_word all p) (has_word all r) (lacking (is_open all) axioms h (p, r) (among_from_contains axioms (p, r) edge)) (has_word_from_among all p m))
+          (shut (has_word all p) (has_word all r) (find_none (is_open all) axioms (p, r) h (among_from_contains axioms (p, r) edge)) (has_word_from_among all p m))
 
       along : (n : ℕ) (p q : List ℕ) → Among all p → Chain (links declared) axioms n p q → Among all q
       along zero p q m same = subst (λ k. Among all k) same m

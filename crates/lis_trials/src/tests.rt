@@ -25,13 +25,14 @@ use tables::{
 static WORDS: [&str; 4] = ["try", "64", "64", "8"];
 
 /// The words of a session in each version, and the pieces in which its input comes.
-static PIECES: [(&[&str], usize); 6] = [
+static PIECES: [(&[&str], usize); 7] = [
     (&["try", "64", "64", "8"], 1),
     (&["try", "64", "64", "8"], 2),
     (&["try", "64", "64", "8"], 3),
     (&["try", "64", "64", "8"], 7),
     (&["try", "64", "64", "8"], 4_096),
     (&["try", "64", "64", "8", "v2"], 4_096),
+    (&["try", "64", "64", "8", "v3"], 4_096),
 ];
 
 /// How the source and the station behave: how many bytes one call of the source gives, the offset at which it fails, how many bytes one

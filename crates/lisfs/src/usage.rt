@@ -11,9 +11,11 @@ const HELP: &[u8] = b"LISFS keeps files by words, in an image that is one file o
 ";
 
 const RANGES: &[u8] = b"
-make makes IMAGE an empty image, over whatever is there; run carries out the commands of its input.
+make makes IMAGE an empty image, over whatever is there; run runs the commands of its input.
 FILES is a power of two from 64 to 4096, PROPS a multiple of 64 from 64 to 8192, BLOCKS from 1 to 32768.
 With v2 a file may have 1048576 bytes, and else 65536. NAME is a file, and F a formula over its lines.
+With v3, which only try has, FILES is up to 262144, PROPS up to 1048576, BLOCKS up to 16777216, and a file
+may have 4096 bytes for each of BLOCKS, up to 67108864.
 N is a number below 2147483648; grow is a trial, not for an image with files of your own.
 docs/GUIDE.md is a page for users, and docs/lisfs.1 a man page.
 ";
@@ -30,23 +32,23 @@ pub fn asked_for(words: &[String]) -> Option<&'static [&'static [u8]]> {
     }
 }
 
-fn is_files(word: &str) -> bool {
+fn is_files(version: u32, word: &str) -> bool {
     match read_count(word.as_bytes()) {
-        Some(files) => is_files_limit(files),
+        Some(files) => is_files_limit(version, files),
         None => false,
     }
 }
 
-fn is_props(word: &str) -> bool {
+fn is_props(version: u32, word: &str) -> bool {
     match read_count(word.as_bytes()) {
-        Some(props) => is_props_limit(props),
+        Some(props) => is_props_limit(version, props),
         None => false,
     }
 }
 
-fn is_blocks(word: &str) -> bool {
+fn is_blocks(version: u32, word: &str) -> bool {
     match read_count(word.as_bytes()) {
-        Some(blocks) => is_blocks_limit(blocks),
+        Some(blocks) => is_blocks_limit(version, blocks),
         None => false,
     }
 }
@@ -56,30 +58,91 @@ fn write_word(error: &mut impl Write, name: &str, word: &str, range: &str) -> io
     writeln!(error, "{name} is '{word}', and has to be {range}")
 }
 
-fn write_numbers(error: &mut impl Write, files: &str, props: &str, blocks: &str) -> io::Result<()> {
-    if !is_files(files) {
-        write_word(error, "FILES", files, "a power of two from 64 to 4096")?;
+// The ranges of FILES, PROPS and BLOCKS in a version.
+fn ranges_of(version: u32) -> (&'static str, &'static str, &'static str) {
+    if version == 3 {
+        return (
+            "a power of two from 64 to 262144",
+            "a multiple of 64 from 64 to 1048576",
+            "a number from 1 to 16777216",
+        );
     }
-    if !is_props(props) {
-        write_word(error, "PROPS", props, "a multiple of 64 from 64 to 8192")?;
+    (
+        "a power of two from 64 to 4096",
+        "a multiple of 64 from 64 to 8192",
+        "a number from 1 to 32768",
+    )
+}
+
+// A number that is out of its range in the version.
+fn write_number(
+    error: &mut impl Write,
+    version: u32,
+    name: &str,
+    word: &str,
+    range: &str,
+) -> io::Result<()> {
+    writeln!(
+        error,
+        "{name} is '{word}', and has to be {range} in version {version}"
+    )
+}
+
+fn write_numbers(
+    error: &mut impl Write,
+    version: u32,
+    files: &str,
+    props: &str,
+    blocks: &str,
+) -> io::Result<()> {
+    let (files_range, props_range, blocks_range) = ranges_of(version);
+    if !is_files(version, files) {
+        write_number(error, version, "FILES", files, files_range)?;
     }
-    if !is_blocks(blocks) {
-        write_word(error, "BLOCKS", blocks, "a number from 1 to 32768")?;
+    if !is_props(version, props) {
+        write_number(error, version, "PROPS", props, props_range)?;
+    }
+    if !is_blocks(version, blocks) {
+        write_number(error, version, "BLOCKS", blocks, blocks_range)?;
     }
     Ok(())
 }
 
-fn write_limits(error: &mut impl Write, limits: &[String]) -> io::Result<()> {
+// The version that a word after the limits says; None if there is none, or the word may not have it.
+fn version_named(newest: u32, last: &str) -> Option<u32> {
+    match last {
+        "v2" => Some(2),
+        "v3" if newest == 3 => Some(3),
+        _ => None,
+    }
+}
+
+// What is wrong with limits, if `newest` is the newest version that they may have. After a wrong last word they may be in any version's
+// range.
+fn write_limits(error: &mut impl Write, newest: u32, limits: &[String]) -> io::Result<()> {
     match limits {
         [files, props, blocks] => {
-            write_numbers(error, files.as_str(), props.as_str(), blocks.as_str())
+            write_numbers(error, 1, files.as_str(), props.as_str(), blocks.as_str())
         }
         [files, props, blocks, last] => {
-            write_numbers(error, files.as_str(), props.as_str(), blocks.as_str())?;
-            if last.as_str() == "v2" {
+            let named = version_named(newest, last.as_str());
+            let version = named.unwrap_or(newest);
+            write_numbers(
+                error,
+                version,
+                files.as_str(),
+                props.as_str(),
+                blocks.as_str(),
+            )?;
+            if named.is_some() {
                 return Ok(());
             }
-            write_word(error, "the last word", last.as_str(), "v2, or left out")
+            let words = if newest == 3 {
+                "v2, v3, or left out"
+            } else {
+                "v2, or left out"
+            };
+            write_word(error, "the last word", last.as_str(), words)
         }
         _ => Ok(()),
     }
@@ -101,8 +164,8 @@ fn write_name(error: &mut impl Write, name: &str) -> io::Result<()> {
 // Each word that is out of its range, on its own line. Nothing if there are too few words, or too many: then the form shows it.
 fn write_ranges(error: &mut impl Write, words: &[String]) -> io::Result<()> {
     match words {
-        [word, limits @ ..] if word.as_str() == "try" => write_limits(error, limits),
-        [word, _, limits @ ..] if word.as_str() == "make" => write_limits(error, limits),
+        [word, limits @ ..] if word.as_str() == "try" => write_limits(error, 3, limits),
+        [word, _, limits @ ..] if word.as_str() == "make" => write_limits(error, 2, limits),
         [word, _, number] if word.as_str() == "grow" => {
             write_word(error, "N", number.as_str(), "a number from 0 to 2147483647")
         }

@@ -12,7 +12,7 @@ from typing import TypeAlias
 import runs
 import sessions
 from lisfs.client import PROGRAM, ROOM_LINE, Ended, Item, Items, NotAReply, Program, Replies, shown_by, words_of
-from lisfs.constants import MAX_LINE, MAX_PAYLOAD
+from lisfs.constants import MAX_LARGE_FILE, MAX_LINE
 
 # What was received for each command: its reply, or at the end what was no reply.
 Got: TypeAlias = list[bytes | NotAReply]
@@ -27,7 +27,7 @@ NO_COUNTS = (b"S" + b"0" * 12, b"0" * 13, b"-S", b"+S", b"Sx", b"0xS", b"S.", b"
 # What may follow a payload; only the first is right.
 BEHIND = (b"\n",) * 9 + (b"\r\n", b"\r\r\n", b"x\n", b" \n", b"ls", b"wrong\0end\r\n", b"y" * 1_100 + b"\n")
 SIZES = (0, 0, 1, 2, 3, 7, 40, 300, 5_000)
-LARGE = (65_536, 65_537, MAX_PAYLOAD, MAX_PAYLOAD + 1, MAX_PAYLOAD + 2, MAX_PAYLOAD + 70_000)
+LARGE = (65_536, 65_537, MAX_LARGE_FILE, MAX_LARGE_FILE + 1, MAX_LARGE_FILE + 2, MAX_LARGE_FILE + 70_000)
 
 
 def filled(chance: random.Random, form: bytes, said: bytes = b"") -> bytes:

@@ -11,7 +11,7 @@ from collections.abc import Callable, Sequence
 from typing import IO, Any, NamedTuple
 
 from lisfs.client import PROGRAM, End, Replies, shown_by
-from lisfs.constants import MAX_PAYLOAD
+from lisfs.constants import MAX_LARGE_FILE
 from support import images, tool
 from support.running import Running, Told, told
 from support.waiting import LONG, is_running, stop, until
@@ -190,7 +190,7 @@ def random_input(chance: random.Random, ends: Sequence[bytes]) -> bytes:
     def part() -> bytes:
         if chance.random() < 0.5:
             return line(LINES) + b"\n"
-        content = bytes(MAX_PAYLOAD + chance.randrange(3)) if chance.random() < 0.1 else random_bytes(chance)
+        content = bytes(MAX_LARGE_FILE + chance.randrange(3)) if chance.random() < 0.1 else random_bytes(chance)
         return line(WITH_PAYLOAD).replace(b"S", b"%d" % len(content)) + b"\n" + content + chance.choice(BEHIND)
 
     return b"".join(part() for _ in range(chance.randrange(12))) + line(ends)

@@ -3,15 +3,15 @@ from collections.abc import Callable
 from typing import Any
 
 from lisfs.client import LINES, Ended, Lines, NotAReply, NotSent, Refused
-from lisfs.constants import MAX_PAYLOAD
+from lisfs.constants import MAX_LARGE_FILE
 
 DONE = Lines(LINES, [])
 CONTENTS = {
     "empty": b"",
     "a line feed": b"\n",
     "like a reply": b"ok\nno 01 bad line\nb 5\nok\n",
-    "no line feed": b"\0\xff" * (MAX_PAYLOAD // 2),
-    "lines": b"ok\n" * (MAX_PAYLOAD // 3) + b"\n",
+    "no line feed": b"\0\xff" * (MAX_LARGE_FILE // 2),
+    "lines": b"ok\n" * (MAX_LARGE_FILE // 3) + b"\n",
 }
 
 

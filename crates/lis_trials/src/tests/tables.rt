@@ -89,7 +89,7 @@ mkdir a;create x a;stat;add y 4097; => ok;ok;s files 1;s known 3;s axioms 0;s fr
 }
 
 /// The words, the files with their sizes, what follows them, and what is shown.
-pub static LARGE_FILES: [(&[&str], &[(&str, usize)], &str, &str); 7] = [
+pub static LARGE_FILES: [(&[&str], &[(&str, usize)], &str, &str); 9] = [
     // Blocks are freed.
     (
         &["try", "64", "64", "1"],
@@ -138,6 +138,20 @@ pub static LARGE_FILES: [(&[&str], &[(&str, usize)], &str, &str); 7] = [
         ],
         "stat;write c 1;x;",
         "ok;no 20 file too large;no 24 no space;ok;s files 2;s known 2;s axioms 0;s free 0;ok;no 24 no space;",
+    ),
+    // In version 3 a file may have as many bytes as all blocks. A larger file is refused as too large, even if there is no space for it.
+    (
+        &["try", "64", "64", "17", "v3"],
+        &[("a", 69_633), ("b", 69_632), ("c", 65_536)],
+        "stat;",
+        "no 20 file too large;no 24 no space;ok;s files 1;s known 2;s axioms 0;s free 1;ok;",
+    ),
+    // Larger files take one more block for each 1,024 of theirs, and `write` can't use the old blocks.
+    (
+        &["try", "64", "64", "300", "v3"],
+        &[("a", 65_537), ("big", 1_048_577), ("c", 94_208)],
+        "stat;write c 1;x;rm a;write c 1;x;stat;",
+        "ok;ok;ok;s files 3;s known 2;s axioms 0;s free 0;ok;no 24 no space;ok;ok;s files 2;s known 3;s axioms 0;s free 41;ok;",
     ),
 ];
 
@@ -188,8 +202,16 @@ try|64|64|8|V2
 try|64|64|8|v1
 try|v2|64|64|8
 try|64|64|8|v2|v2
+try|8192|64|8|v2
+try|524288|64|8|v3
+try|64|1048640|8|v3
+try|64|64|16777217|v3
+try|64|64|8|V3
+try|64|64|8|v4
+try|64|64|8|v3|v3
 make|x|64|64|8|V2
 make|x|64|64|8|v2|v2
+make|x|64|64|8|v3
 make|64|64|8|v2
 make|x|63|64|8
 make|x|64|64
@@ -235,6 +257,9 @@ try|128|192|32767
 try|4096|8192|32768
 try|0064|064|000000000008
 try|64|64|8|v2
+try|64|64|1|v3
+try|8192|64|8|v3
+try|262144|1048576|16777216|v3
 "
 }
 

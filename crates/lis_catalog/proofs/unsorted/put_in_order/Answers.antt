@@ -1,16 +1,19 @@
 use Rattle.std.proofs.Common.{rules, arith}
 use Rattle.std.proofs.lemmas.Fn.{always_returns_same}
 use Rattle.std.specs.Ordering.{is_lt}
-use Rattle.lis_catalog.specs.Inside.{slot_cmp}
-use Rattle.lis_catalog.proofs.Repeats.{ranked}
-use Rattle.lis_catalog.proofs.Sorting.{moved}
+use Rattle.lis_limits.specs.declared.TheConstants.{MAX_FILES}
+use Rattle.lis_graph.specs.Inside.{named_cmp}
+use Rattle.lis_graph.proofs.Repeats.{ranked, moved}
+use Rattle.lis_words.specs.Words.{word_cmp}
+use Rattle.lis_catalog.specs.Inside.{name_in}
+use Rattle.lis_catalog.proofs.Order.{word_order}
 use Rattle.lis_catalog.proofs.unsorted.put_in_order.Goals as goal
 
 pub returns-clause-held : goal.returns-clause-held
 returns-clause-held c =
-    moved c.args.records.now c.args.order.now.items c.sort_unstable_by.new.self.items _ c.requires c.sort_unstable_by.ensures.permutation _ (omega (arith, c.sort_unstable_by.ensures.capacity))
+    moved MAX_FILES c.args.records.now c.args.order.now.items _ c.requires c.sort_unstable_by.new.self.items c.sort_unstable_by.ensures.permutation _ (omega (arith, c.sort_unstable_by.ensures.capacity))
 
 pub returns-clause-ordered : goal.returns-clause-ordered
 returns-clause-ordered c =
-    let records = c.args.records.now in
-    c.sort_unstable_by.ensures.sorted (λ m n. is_lt (slot_cmp records m n)) (ranked records) (always_returns_same _ _ _ (λ a r f called. search rules))
+    let name = name_in c.args.records.now in
+    c.sort_unstable_by.ensures.sorted (λ m n. is_lt (named_cmp word_cmp name m n)) (ranked word_cmp word_order name) (always_returns_same _ _ _ (λ a r f called. search rules))

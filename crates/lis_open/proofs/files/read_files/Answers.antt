@@ -1,4 +1,4 @@
-use Rattle.lis_open.proofs.Common.{rules, sym, subst, ℕ, ◌<◌, arith, err_from_is_err_and}
+use Rattle.lis_open.proofs.Common.{rules, sym, subst, ℕ, ◌<◌, arith}
 use Rattle.lis_model.specs.declared.spot.Spot.TheVariants.{File as FileSpot}
 use Rattle.lis_catalog.specs.Catalog.{IsCatalog}
 use Rattle.lis_open.specs.Reading.{IsFirst}

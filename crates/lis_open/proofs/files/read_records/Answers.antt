@@ -1,4 +1,4 @@
-use Rattle.lis_open.proofs.Common.{rules, ◌≡◌, ℕ, List, refl, sym, subst, ◌∙◌, arith, ends_none, ends_then, Fits}
+use Rattle.lis_open.proofs.Common.{rules, ℕ, List, refl, sym, subst, ◌∙◌, ends_none, ends_then, Fits}
 use Rattle.std.proofs.lemmas.Bool.{OnTrue_at, OnFalse_at}
 use Rattle.lis_open.specs.declared.files.FileSlots.{FileSlots}
 use Rattle.lis_open.specs.ReadFiles.{in_slots, AreFirstRecords, RecordsEnded, TakesFile}

@@ -1,9 +1,8 @@
 use Rattle.lis_open.proofs.Common.{rules, ◌∙◌, sym, ap, subst, arith, ends_then, err_from_is_err_and, Limits}
 use Rattle.lis_ports.specs.Calls.{Rose}
 use Rattle.lis_ports.proofs.Moments.{run_then}
-use Rattle.lis_store.proofs.FreeAgain.{first_version}
 use Rattle.lis_open.specs.Opens.{OpenUnwritten}
-use Rattle.lis_open.proofs.Upgraded.{fault_of, disk_alone, handed_on, not_refused, opening_moments, second_left, second_stands, first_left, upgrade_moments, upgrade_past, first_stands}
+use Rattle.lis_open.proofs.Upgraded.{first_version, fault_of, disk_alone, handed_on, not_refused, opening_moments, second_left, second_stands, first_left, upgrade_moments, upgrade_past, first_stands}
 use Rattle.lis_open.proofs.upgrading.upgrade.Goals as goal
 use Rattle.lis_kept.proofs.Image.{same_blocks}
 

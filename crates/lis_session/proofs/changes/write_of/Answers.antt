@@ -1,4 +1,5 @@
-use Rattle.std.proofs.Common.{refl, sym}
+use Rattle.std.proofs.Common.{refl, sym, ◌∙◌, arith}
+use Rattle.lis_model.proofs.Stored.{limit_le}
 use Rattle.lis_session.proofs.changes.write_of.Goals as goal
 
 pub returns-in-Mkdir-clause-written : goal.returns-in-Mkdir-clause-written
@@ -30,3 +31,11 @@ returns-in-Rename-clause-written c = rw c.in-Rename.is (λ now. refl)
 
 pub returns-in-Rm-clause-written : goal.returns-in-Rm-clause-written
 returns-in-Rm-clause-written c = rw c.in-Rm.is (λ now. refl)
+
+pub returns-in-Add-clause-whole : goal.returns-in-Add-clause-whole
+returns-in-Add-clause-whole c = λ limits few.
+    c.bytes-bytes.ensures.all (omega (arith, few, limit_le limits, c.size-size.ensures)) ∙ sym c.size-size.ensures
+
+pub returns-in-Write-clause-whole : goal.returns-in-Write-clause-whole
+returns-in-Write-clause-whole c = λ limits few.
+    c.bytes-bytes.ensures.all (omega (arith, few, limit_le limits, c.size-size.ensures)) ∙ sym c.size-size.ensures

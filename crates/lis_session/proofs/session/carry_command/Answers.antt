@@ -29,7 +29,7 @@ returns-in-Mkdir-clause-carries g c = λ state fitting.
     (makes_written c.write_of.result c.write_of.ensures.written c.apply-changed.ensures.changes state fitting.own) c.conclude.ensures
 
 pub apply-changed-requires-clause-whole : goal.apply-changed-requires-clause-whole
-apply-changed-requires-clause-whole g c = c.write_of.ensures.whole c.args.store.now.metadata.limits.version
+apply-changed-requires-clause-whole g c = c.write_of.ensures.whole c.args.store.now.metadata.limits
 
 pub returns-in-Mkdir-clause-settled : goal.returns-in-Mkdir-clause-settled
 returns-in-Mkdir-clause-settled g c = settled_applied c.args.store.now c.apply-changed.new.self c.apply-changed.result c.apply-changed.ensures.keeps.left c.apply-changed.ensures.settled

@@ -67,7 +67,7 @@ returns-in-Mkdir-clause-tallies g c = λ state fitting.
     tallied_change (done_stays now c.args.command.now c.args.payload.now (search rules)) (search rules) c.apply.ensures.keeps.sound c.apply.result (makes_written c.write_of-write.result c.write_of-write.ensures.written c.apply.ensures.changes state fitting.own) c.concluded.ensures
 
 pub apply-requires-clause-whole : goal.apply-requires-clause-whole
-apply-requires-clause-whole g c = c.write_of-write.ensures.whole c.args.store.now.metadata.limits.version
+apply-requires-clause-whole g c = c.write_of-write.ensures.whole c.args.store.now.metadata.limits
 
 pub returns-in-Mkdir-clause-settled : goal.returns-in-Mkdir-clause-settled
 returns-in-Mkdir-clause-settled g c = settled_applied c.args.store.now c.apply.new.self c.apply.result c.apply.ensures.keeps.left c.apply.ensures.settled

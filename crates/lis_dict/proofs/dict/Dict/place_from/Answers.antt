@@ -1,11 +1,9 @@
 use Rattle.std.proofs.Common.{List, ℕ, [], get_or, sym, ap, ◌∙◌}
 use Rattle.std.proofs.lemmas.Bool.{both_ways}
-use Rattle.lis_graph.proofs.Members.{map_among}
+use Rattle.lis_graph.proofs.Members.{among_at, all_among, map_among}
 use Rattle.lis_words.specs.Words.{is_property}
 use Rattle.lis_dict.specs.Dict.{words}
 use Rattle.lis_dict.proofs.Entries.{DictEntry}
-use Rattle.lis_dict.proofs.Finds.{all_among}
-use Rattle.lis_dict.proofs.Places.{among_at}
 use Rattle.lis_dict.proofs.dict.Dict.place_from.Goals as goal
 
 -- each entry has a property

@@ -1,14 +1,14 @@
-use Rattle.std.proofs.Common.{is_some, get_or, refl, sym, ap}
-use Rattle.lis_dict.proofs.Places.{among_at}
-use Rattle.lis_dict.proofs.Repeats.{holds, first_again}
-use Rattle.lis_dict.proofs.Sorting.{told, sound}
+use Rattle.std.proofs.Common.{is_some, refl, sym, ap}
+use Rattle.lis_limits.specs.declared.TheConstants.{MAX_PROPS}
+use Rattle.lis_graph.proofs.Repeats.{holds}
+use Rattle.lis_dict.proofs.Sorting.{first_again, told, sound}
 use Rattle.lis_dict.proofs.unsorted.Unsorted.sort.Goals as goal
 
 pub first_again-requires : goal.first_again-requires
 first_again-requires c =
     let order = c.put_in_order.new.order.items in
     let held = rw c.deref.ensures.value at c.put_in_order.ensures.held in
-    rw (c.deref-2.ensures.value, c.deref-3.ensures.value) (λ k lt. ap is_some (holds c.self.inside.holders.items order _ held (get_or order k 0) (among_at order k 0 lt)))
+    rw (c.deref-2.ensures.value, c.deref-3.ensures.value) (λ k lt. ap is_some (holds MAX_PROPS c.self.inside.holders.items order _ held k lt).1)
 
 pub of_parts-requires : goal.of_parts-requires
 of_parts-requires c =

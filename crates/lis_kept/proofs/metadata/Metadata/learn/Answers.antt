@@ -1,4 +1,5 @@
 use Rattle.std.proofs.Common.{arith}
+use Rattle.std.proofs.lemmas.Option.{IfSome_then}
 use Rattle.lis_kept.proofs.Common.{◌≡◌, ◌∙◌, ◌<◌, ℕ, true, None, List, length, IsSome, sym, ap, subst, number_of, is_undeclared, is_valued, head_bytes}
 use Rattle.lis_kept.specs.Metadata.{Metadata}
 use Rattle.lis_kept.specs.Edges.{with_edge_to}
@@ -43,7 +44,10 @@ link_head-requires-clause-apart c =
     (come (goal.at.link_head-requires-clause-apart c).In-Ok).free
 
 pub link_head-requires-clause-to : goal.link_head-requires-clause-to
-link_head-requires-clause-to c = none_to (the_view c.self.inside) c.self.inside.taxonomy c.self.invariant c.in-Ok.number (come (goal.at.link_head-requires-clause-to c).In-Ok).free
+link_head-requires-clause-to c =
+    let below = head_below (the_view c.self.inside) c.self.inside.taxonomy c.self.invariant c.args.word.now c.head_number-head.result c.head_number-head.ensures in
+    let free = (come (goal.at.link_head-requires-clause-to c).In-Ok).free in
+    IfSome_then c.head_number-head.result below (λ h lt. none_to (the_view c.self.inside) c.self.inside.taxonomy c.self.invariant c.in-Ok.number free)
 
 pub link_head-requires-clause-from : goal.link_head-requires-clause-from
 link_head-requires-clause-from c = none_from (the_view c.self.inside) c.self.inside.taxonomy c.self.invariant c.in-Ok.number (come (goal.at.link_head-requires-clause-from c).In-Ok).free

@@ -25,4 +25,4 @@ returns-clause-keeps g c =
     }
 
 pub hold-requires-clause-whole : goal.hold-requires-clause-whole
-hold-requires-clause-whole g c = c.write_of-write.ensures.whole c.self.inside.store.metadata.limits.version
+hold-requires-clause-whole g c = c.write_of-write.ensures.whole c.self.inside.store.metadata.limits

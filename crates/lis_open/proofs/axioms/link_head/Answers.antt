@@ -1,8 +1,0 @@
-use Rattle.lis_open.proofs.Common.{Some, ap, refl, ◌∙◌}
-use Rattle.lis_kept.proofs.HeadEdges.{not_refused}
-use Rattle.lis_open.proofs.axioms.link_head.Goals as goal
-
-pub unreachable-requires : goal.unreachable-requires
-unreachable-requires c =
-    not_refused c.args.taxonomy.now c.args.number c.in-Some.head c.args.number c.in-Some.head _ c.add.result c.in_default-add.is c.add.ensures.present c.add.ensures.cycle c.add.ensures.not_absent
-    refl refl (rw c.in-Some.is at c.requires.to) c.requires.from (λ e. c.requires.apart (c.in-Some.is ∙ ap Some e))
