@@ -1,11 +1,14 @@
-use Rattle.lis_open.proofs.Common.{◌∙◌, sym, ap, ◌+◌, ◌++◌, get_or, data_start}
-use Rattle.lis_open.proofs.BlocksRead.{large_found, large_missed}
+use Rattle.lis_open.proofs.Common.{◌∙◌, sym, ap, ◌+◌, ◌++◌, get_or, data_start, image_blocks, rules, refl}
+use Rattle.lis_open.proofs.BlocksRead.{few_blocks, large_found, large_missed}
 use Rattle.lis_open.proofs.indexes.all_blocks.Goals as goal
 use Rattle.std.proofs.Common.{arith}
 use Rattle.lis_kept.proofs.Image.{same_homes}
 
 pub read_numbers-requires-clause-home : goal.read_numbers-requires-clause-home
 read_numbers-requires-clause-home g c = omega (arith, c.data_start.ensures.start, same_homes c.requires.readable.image)
+
+pub overflow_add-home : goal.overflow_add-home
+overflow_add-home g c = search (rules, few_blocks c.args.limits.now (image_blocks c.args.limits.now) c.requires.readable.range refl)
 
 pub returns-in_default-clause-found : goal.returns-in_default-clause-found
 returns-in_default-clause-found g c = λ kept fits.
