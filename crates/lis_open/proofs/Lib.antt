@@ -18,3 +18,4 @@ mod Opening
 mod Unwritten
 mod Shut
 mod Upgraded
+mod ReadOn

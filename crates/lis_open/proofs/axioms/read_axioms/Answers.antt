@@ -5,6 +5,10 @@ use Rattle.lis_open.proofs.SpotKinds.{none_before, none_fails}
 use Rattle.lis_ports.proofs.OnlyReading.{reads_none, reads_then}
 use Rattle.lis_open.proofs.BlocksRead.{fits_after}
 use Rattle.lis_open.proofs.AxiomsRead.{axiom_on, no_axioms_yet, axiom_fails, axiom_passes}
+use Rattle.std.proofs.Common.{ap, Err}
+use Rattle.lis_open.proofs.Common.{err_from_is_err_and}
+use Rattle.lis_open.specs.declared.mounting.OpenFault.TheVariants.{DiskFault}
+use Rattle.lis_open.proofs.ReadOn.{HasRead, fails_then}
 use Rattle.lis_open.proofs.axioms.read_axioms.Goals as goal
 
 pub loop-k-init : goal.loop-k-init
@@ -64,4 +68,15 @@ returns-clause-ended g c = λ kept fits recalled told.
     }
 
 pub returns-in_err-found : goal.returns-in_err-found
-returns-in_err-found g c = search rules
+returns-in_err-found g c =
+    let l = c.loop-k in
+    let p = err_from_is_err_and c.from_residual.result c.from_residual.ensures.1 in
+    let so_far : HasRead (g.D.Disk.meaning c.args.disk.now) (g.D.Disk.meaning l.disk) = record { reads = l.invariant.reads; faults = l.invariant.faults; first_fault = l.invariant.first_fault } in
+    let fails = fails_then {U = Unit {0}} DiskFault so_far c.in_err-found.ensures.disk in
+    rw (p.1 ∙ ap Err p.2) (record {
+      disk = record { reads = fails.reads; cause = fails.cause.rose; first_fault = fails.first_fault };
+      read = tt;
+      recalls = λ kept fits recalled.
+          c.read_axiom_slot.ensures.recalls kept (fits_after c.args.journal.now kept l.invariant.reads fits) (l.invariant.recalls kept fits recalled);
+      ended = λ kept fits recalled told. tt;
+    })

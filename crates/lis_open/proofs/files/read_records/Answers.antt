@@ -4,6 +4,8 @@ use Rattle.lis_open.specs.declared.files.FileSlots.{FileSlots}
 use Rattle.lis_open.specs.ReadFiles.{in_slots, AreFirstRecords, RecordsEnded, TakesFile}
 use Rattle.lis_ports.proofs.OnlyReading.{reads_none, reads_then}
 use Rattle.lis_open.proofs.BlocksRead.{fits_after}
+use Rattle.lis_open.proofs.Common.{err_from_is_err_and}
+use Rattle.lis_open.proofs.ReadOn.{HasRead, read_well, read_then, reads_disk, fails_then}
 use Rattle.lis_open.proofs.FilesRead.{files_on, so_far_on, no_files_yet, none_so_far, file_fails}
 use Rattle.lis_open.proofs.files.read_records.Goals as goal
 
@@ -63,5 +65,30 @@ loop-slot-preserved g c =
 
 pub returns-in_err-is_taken : goal.returns-in_err-is_taken
 returns-in_err-is_taken g c =
-    let reads = reads_then (reads_then c.loop-slot.invariant.reads c.in_ok-found.ensures.disk.reads) c.take_file.ensures.disk.reads in
-    search (rules, reads)
+    let l = c.loop-slot in
+    let p = err_from_is_err_and c.from_residual-in_err-is_taken.result c.from_residual-in_err-is_taken.ensures.1 in
+    let before : HasRead (g.D.Disk.meaning c.args.disk.now) (g.D.Disk.meaning l.disk) = record { reads = l.invariant.reads; faults = l.invariant.faults; first_fault = l.invariant.first_fault } in
+    rw p.1 (record {
+      disk = fails_then p.0 (read_then before (read_well c.in_ok-found.ensures.disk)) c.in_err-is_taken.ensures.disk;
+      read = tt;
+      recalls = λ kept fits recalls. c.in_ok-found.ensures.recalls kept (fits_after c.args.known.journal.now kept l.invariant.reads fits) (l.invariant.recalls kept fits recalls);
+      ended = λ kept fits recalls told pairs. tt;
+    })
+
+pub returns-in_err-found-clause-disk : goal.returns-in_err-found-clause-disk
+returns-in_err-found-clause-disk g c =
+    let l = c.loop-slot in
+    let p = err_from_is_err_and c.from_residual.result c.from_residual.ensures.1 in
+    let before : HasRead (g.D.Disk.meaning c.args.disk.now) (g.D.Disk.meaning l.disk) = record { reads = l.invariant.reads; faults = l.invariant.faults; first_fault = l.invariant.first_fault } in
+    rw p.1 (fails_then p.0 before c.in_err-found.ensures.disk)
+
+pub returns-then-not-is_taken-clause-disk : goal.returns-then-not-is_taken-clause-disk
+returns-then-not-is_taken-clause-disk g c =
+    let l = c.loop-slot in
+    let before : HasRead (g.D.Disk.meaning c.args.disk.now) (g.D.Disk.meaning l.disk) = record { reads = l.invariant.reads; faults = l.invariant.faults; first_fault = l.invariant.first_fault } in
+    reads_disk l.slot (read_then (read_then before (read_well c.in_ok-found.ensures.disk)) (read_well c.in_ok-is_taken.ensures.disk))
+
+pub returns-then-not-is_taken-clause-recalls : goal.returns-then-not-is_taken-clause-recalls
+returns-then-not-is_taken-clause-recalls g c = λ kept fits recalls.
+    let l = c.loop-slot in
+    c.in_ok-found.ensures.recalls kept (fits_after c.args.known.journal.now kept l.invariant.reads fits) (l.invariant.recalls kept fits recalls)

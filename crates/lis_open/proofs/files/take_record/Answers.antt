@@ -1,9 +1,10 @@
-use Rattle.lis_open.proofs.Common.{rules, ◌≡◌, refl, sym, ap, subst, ◌∙◌, arith, length, false, are_free, are_distinct, are_below, bytes_told}
+use Rattle.lis_open.proofs.Common.{rules, ◌≡◌, refl, sym, ap, subst, ◌∙◌, arith, length, false, true, are_free, are_distinct, are_below, bytes_told}
 use Rattle.lis_open.specs.ReadFiles.{found_words, own_numbers, may_describe, HaveWordsOf, TakesNumbers}
 use Rattle.lis_open.specs.ReadFiles.RecordFault.{NoBlocks, NotDescribed}
 use Rattle.lis_open.proofs.FilesRead.{tags_below, free_below}
 use Rattle.lis_open.proofs.Gathering.{described_rise, described_in}
 use Rattle.lis_open.proofs.BlocksRead.{fits_after}
+use Rattle.lis_open.proofs.ReadOn.{read_well, read_then, reads_disk}
 use Rattle.lis_open.proofs.ContentRead.{same_words}
 use Rattle.lis_open.proofs.files.take_record.Goals as goal
 
@@ -75,10 +76,10 @@ returns-in-Some-describe-clause-taken g c =
     }
 
 pub returns-in-None-clause-disk : goal.returns-in-None-clause-disk
-returns-in-None-clause-disk g c = search rules
+returns-in-None-clause-disk g c = reads_disk false (read_then (read_well c.in_ok-blocks.ensures.disk) (read_well c.in_ok-read_content.ensures.disk))
 
 pub returns-in-Some-describe-clause-disk : goal.returns-in-Some-describe-clause-disk
-returns-in-Some-describe-clause-disk g c = search rules
+returns-in-Some-describe-clause-disk g c = reads_disk true (read_then (read_well c.in_ok-blocks.ensures.disk) (read_well c.in_ok-read_content.ensures.disk))
 
 pub file-requires-clause-distinct : goal.file-requires-clause-distinct
 file-requires-clause-distinct g c = search rules
