@@ -1,7 +1,7 @@
-use Rattle.std.proofs.Common.{sym, ◌∙◌, subst, arith}
+use Rattle.std.proofs.Common.{rules, refl, sym, ◌∙◌, subst, arith}
 use Rattle.lis_store.specs.Stored.{IsIndex}
-use Rattle.lis_session.proofs.Blocks.{blocks_more, blocks_broke, blocks_all}
-use Rattle.lis_session.proofs.DiskKept.{stays_then}
+use Rattle.lis_session.proofs.Blocks.{blocks_none, blocks_more, blocks_broke, blocks_all}
+use Rattle.lis_session.proofs.DiskKept.{stays_none, stays_then}
 use Rattle.lis_session.proofs.Going.{ends_then}
 use Rattle.lis_session.proofs.content.show_blocks.Goals as goal
 
@@ -35,3 +35,13 @@ returns-in_err-show_block-clause-disk g c = λ honest.
 
 pub returns-clause-disk : goal.returns-clause-disk
 returns-clause-disk g c = c.loop-n.invariant.disk
+
+pub loop-n-init : goal.loop-n-init
+loop-n-init g c =
+    let m = g.T.Disk.meaning c.args.station.now in
+    record {
+      ends = search rules;
+      disk = λ honest. stays_none m;
+      whole = refl;
+      shown = λ is_index. blocks_none c.args.store.now c.args.slot 0;
+    }
