@@ -1,10 +1,13 @@
 -- How an edited view is kept, and how it grows. No public clause cites this module.
-use Rattle.std.specs.Prelude.{◌≡◌, ℕ, ◌+◌, List, ◌++◌, length, take, Option, Result, Ok, Err}
+use Rattle.std.specs.Prelude.{◌≡◌, ℕ, ◌+◌, List, [], ◌++◌, unwrap_or, length, take, Option, Result, Ok, Err}
 use Rattle.std.specs.Io.KnownBytes.{Consumes, Keeps, IsAtEnd}
-use Rattle.lis_region.specs.Region.{Region, HasFrame}
-use Rattle.lis_line.specs.Inside.{frame_bytes}
+use Rattle.lis_region.specs.Region.{Region, get, HasFrame}
 use Rattle.lis_ports.specs.Sources.{IsTake}
 use Rattle.lis_parts.specs.Putting.{view_limit}
+
+-- the bytes of the frame
+abbrev pub frame_bytes : Region ℕ → ℕ → List ℕ
+frame_bytes region frame = unwrap_or (get region frame) []
 
 -- the frame is taken, and has room for one byte more than an edited view may have
 pub record IsKept (region : Region ℕ) (frame : ℕ) : Type 0 where

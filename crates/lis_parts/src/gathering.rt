@@ -2,7 +2,7 @@
 
 ghost use Rattle.std.specs.Prelude.{◌≡◌, ◌+◌, ◌<◌, ◌≤◌, ◌↔◌, ℕ, List, [], Some, length, IfOk, IsTrue, true};
 ghost use Rattle.lis_ports.specs.Calls.{HasCause};
-ghost use Rattle.lis_line.specs.Inside.{frame_bytes};
+ghost use Rattle.lis_parts.specs.Inside.{frame_bytes};
 ghost use Rattle.lis_line.specs.Taking.{TakesFew, UsesSource};
 ghost use Rattle.lis_parts.specs.Inside.{IsKept, TakesBehind, TakesMore};
 ghost use Rattle.lis_parts.specs.Putting.{view_limit, Gathers};
@@ -26,7 +26,7 @@ pub struct Edited {
 
 impl Model for Edited {
     ghost use Rattle.std.specs.Prelude.{◌+◌, ◌≤◌, ℕ, List, take};
-    ghost use Rattle.lis_line.specs.Inside.{frame_bytes};
+    ghost use Rattle.lis_parts.specs.Inside.{frame_bytes};
     ghost use Rattle.lis_parts.specs.Inside.{IsKept};
     ghost use Rattle.lis_parts.specs.Putting.{view_limit};
 

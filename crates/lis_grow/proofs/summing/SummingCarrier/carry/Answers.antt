@@ -44,3 +44,9 @@ returns-clause-carried g c = λ start entry first done.
       refused = c.add.ensures.refused;
       listed = c.add.ensures.listed;
     })
+
+pub add-requires-clause-listed : goal.add-requires-clause-listed
+add-requires-clause-listed g c =
+    let limits = c.args.self.now.session.now.store.metadata.limits in
+    let range = c.requires.ready.1.sound.metadata.range in
+    omega (arith, c.requires.ready.1.listed, c.in_ok-tally.ensures.few, few_properties limits range, few_files limits range)

@@ -1,7 +1,7 @@
 use Rattle.std.proofs.Common.{ℕ, ◌+◌, ◌<◌, List, length, take, Ok, ap, subst, arith}
 use Rattle.std.proofs.lemmas.List.{length-take}
 use Rattle.lis_ports.specs.declared.disk.Failed.{Failed}
-use Rattle.lis_line.specs.Inside.{frame_bytes}
+use Rattle.lis_parts.specs.Inside.{frame_bytes}
 use Rattle.lis_parts.specs.Putting.{view_limit}
 use Rattle.lis_parts.specs.Inside.{TakesMore}
 use Rattle.lis_parts.proofs.Gathered.{taken_more}
