@@ -4,7 +4,7 @@ use Rattle.lis_session.specs.Session.{Situated, root_of}
 use Rattle.lis_grow.specs.Session.{grow_items, GrowEnded, Grows}
 use Rattle.lis_shell.specs.declared.status.Status.TheVariants.{Ended}
 use Rattle.lis_shell.specs.Causes.{counts, HasStatusCause}
-use Rattle.lis_shell.specs.Image.{ByResult}
+use Rattle.lis_shell.specs.Image.{ByResult, IsUnread}
 use Rattle.lis_shell.proofs.Opened.{halted_cause, by_halted}
 use Rattle.lis_shell.proofs.growing.GrowingImageWork.carry_on.Goals as goal
 
@@ -30,3 +30,6 @@ returns-clause-disk g c = λ is. absurd (cc)
 
 pub returns-clause-undone : goal.returns-clause-undone
 returns-clause-undone g c = λ is. absurd (cc)
+
+pub returns-clause-only : goal.returns-clause-only
+returns-clause-only g c = subst IsUnread (sym c.halted.ensures) (by_halted (λ result. Unit {0}) c.grow_session-done.result tt)
