@@ -18,7 +18,8 @@ use std::test::Fail;
 pub mod tables;
 
 use tables::{
-    CUT_SESSIONS, Cut, LARGE_FILES, failing_shows, long_lines, right_words, sessions, wrong_words,
+    CUT_SESSIONS, Cut, LARGE_FILES, V3_FILES, failing_shows, long_lines, right_words, sessions,
+    wrong_words,
 };
 
 /// The words of most sessions.
@@ -224,6 +225,16 @@ pub fn files_row(
 #[test]
 fn files_are_as_large_as_there_are_blocks(rt: HostRuntime) -> Result<(), Fail> {
     for (words, files, behind, wanted) in &LARGE_FILES {
+        let row = files_row(rt.alloc(), files, behind)?;
+        let seen = run(rt.alloc(), words, row.as_str(), &SOUND)?;
+        assert!(rt; seen.shown.as_str() == *wanted, "{words:?}");
+    }
+    Ok(())
+}
+
+#[test]
+fn files_of_version_3_are_as_large_as_its_blocks(rt: HostRuntime) -> Result<(), Fail> {
+    for (words, files, behind, wanted) in &V3_FILES {
         let row = files_row(rt.alloc(), files, behind)?;
         let seen = run(rt.alloc(), words, row.as_str(), &SOUND)?;
         assert!(rt; seen.shown.as_str() == *wanted, "{words:?}");
