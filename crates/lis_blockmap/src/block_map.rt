@@ -8,7 +8,7 @@ ghost use Rattle.lis_journal.specs.Record.{homes_start};
 
 use lis_bits::Rows;
 use lis_journal::Journal;
-use lis_limits::{BLOCK_BITS, BLOCK_LEN, MAX_BLOCKS};
+use lis_limits::{BLOCK_BITS, BLOCK_LEN, V3_MAX_BLOCKS};
 use std::alloc::{AllocError, Global};
 use std::marker::Model;
 
@@ -43,7 +43,7 @@ fn has_bit(bytes: &[u8], n: u32) -> bool
 
 // A row with the bits of `blocks` blocks, all of them free.
 fn free_row(alloc: Global, blocks: u32) -> Result<Rows, AllocError>
-    requires { blocks ≤ MAX_BLOCKS }
+    requires { blocks ≤ V3_MAX_BLOCKS }
     ensures { IfOk result (λ rows. HasFree rows blocks blocks) }
 {
     let mut rows = Rows::new(alloc, 1, (blocks + 63) / 64 * 64)?;
@@ -57,7 +57,7 @@ impl BlockMap {
     /// The bitmap of `blocks` blocks, all of them free.
     pub fn new(alloc: Global, blocks: u32) -> Result<BlockMap, AllocError>
         requires some { 1 ≤ blocks }
-        requires few { blocks ≤ MAX_BLOCKS }
+        requires few { blocks ≤ V3_MAX_BLOCKS }
         ensures { IfOk result (λ map. map ≡ replicate blocks false) }
     {
         Ok(BlockMap {
@@ -70,7 +70,7 @@ impl BlockMap {
     /// How many blocks there are.
     pub fn len(&self) -> usize
         ensures value { result ≡ length self.now }
-        ensures few { result ≤ MAX_BLOCKS }
+        ensures few { result ≤ V3_MAX_BLOCKS }
     {
         self.blocks as usize
     }
@@ -92,8 +92,8 @@ impl BlockMap {
         !self.rows.get(0, n)
     }
 
-    /// Takes a free block, if there is one.
-    pub fn take(&mut self) -> Option<u32>
+    /// Takes a free block, if there is one. The search begins at block `from` and goes on at the first one.
+    pub fn take(&mut self, from: u32) -> Option<u32>
         ensures none { IsNone result ↔ (free_count self.old ≡ 0) }
         ensures stays { IfNone result (self.new ≡ self.old) }
         ensures within { IfSome result (λ n. n < length self.old) }
@@ -101,7 +101,7 @@ impl BlockMap {
         ensures taken { IfSome result (λ n. self.new ≡ slice_set self.old n true) }
         ensures fewer { OnSome result (free_count self.new + 1 ≡ free_count self.old) }
     {
-        let n = self.rows.next(0, 0)?;
+        let n = self.next_free(from)?;
         self.rows.put(0, n, false);
         self.free -= 1;
         Some(n)
@@ -128,52 +128,71 @@ impl BlockMap {
         self.free -= 1;
     }
 
-    /// Stages the bitmap's block.
-    pub fn stage_to(&self, journal: &mut Journal, n: u32)
-        requires home { homes_start journal.old.layout ≤ n }
-        requires within { n < journal.old.layout.blocks }
+    /// Stages block `n` of the bitmap at its home.
+    pub fn stage_to(&self, journal: &mut Journal, home: u32, n: u32)
+        requires some { BLOCK_BITS * n < length self.now }
+        requires home { homes_start journal.old.layout ≤ home }
+        requires within { home < journal.old.layout.blocks }
         requires unbroken { journal.old.is_broken ≡ false }
-        requires unplaced { is_among journal.old.placed n ≡ false }
-        requires room { IsTrue (has_entry journal.old.staged n) ⊎ (length journal.old.staged < journal.old.capacity.staged) }
+        requires unplaced { is_among journal.old.placed home ≡ false }
+        requires room { IsTrue (has_entry journal.old.staged home) ⊎ (length journal.old.staged < journal.old.capacity.staged) }
         ensures staged { journal.new
-            ≡ record journal.old { staged = with_entry journal.old.staged n (bitmap_bytes self.now) } }
+            ≡ record journal.old { staged = with_entry journal.old.staged home (bitmap_bytes n self.now) } }
         ensures looks { (m : ℕ) (old : List ℕ) → look journal.new.staged m old
-            ≡ (if m == n then bitmap_bytes self.now else look journal.old.staged m old) }
+            ≡ (if m == home then bitmap_bytes n self.now else look journal.old.staged m old) }
     {
         let mut bytes = [0; BLOCK_LEN];
-        self.write_to(&mut bytes);
-        journal.stage(n, &bytes);
+        self.write_to(n, &mut bytes);
+        journal.stage(home, &bytes);
     }
 
-    /// The first bit in which a block differs from the bitmap's block.
-    pub fn first_difference(&self, bytes: &[u8]) -> Option<u32>
-        requires { length bytes.now ≡ BLOCK_LEN }
-        ensures same { IfNone result (bytes.now ≡ bitmap_bytes self.now) }
-        ensures differs { IfSome result (IsFirstDifference bytes.now self.now) }
+    /// The first bit in which a block differs from block `n` of the bitmap.
+    pub fn first_difference(&self, n: u32, bytes: &[u8]) -> Option<u32>
+        requires some { BLOCK_BITS * n < length self.now }
+        requires whole { length bytes.now ≡ BLOCK_LEN }
+        ensures same { IfNone result (bytes.now ≡ bitmap_bytes n self.now) }
+        ensures differs { IfSome result (λ bit. IsFirstDifference n bytes.now self.now bit) }
     {
-        for n in 0..BLOCK_BITS {
-            if has_bit(bytes, n) != self.is_taken(n) {
-                return Some(n);
+        for bit in 0..BLOCK_BITS {
+            if has_bit(bytes, bit) != self.is_taken(BLOCK_BITS * n + bit) {
+                return Some(bit);
             }
         }
         None
     }
 
-    // Writes the bitmap's block.
-    fn write_to(&self, bytes: &mut [u8])
-        requires { length bytes.old ≡ BLOCK_LEN }
-        ensures { bytes.new ≡ bitmap_bytes self.now }
+    // The number of a free block, if there is one.
+    fn next_free(&self, from: u32) -> Option<u32>
+        ensures none { IsNone result ↔ (free_count self.now ≡ 0) }
+        ensures within { IfSome result (λ n. n < length self.now) }
+        ensures free { IfSome result (λ n. is_taken self.now n ≡ false) }
+    {
+        if from < self.blocks
+            && let Some(n) = self.rows.next(0, from)
+        {
+            return Some(n);
+        }
+        self.rows.next(0, 0)
+    }
+
+    // Writes block `n` of the bitmap.
+    fn write_to(&self, n: u32, bytes: &mut [u8])
+        requires some { BLOCK_BITS * n < length self.now }
+        requires whole { length bytes.old ≡ BLOCK_LEN }
+        ensures { bytes.new ≡ bitmap_bytes n self.now }
     {
         // The bits past the last block are 0.
         bytes.fill(0);
-        for k in 0..self.blocks.div_ceil(8) {
-            bytes[k as usize] = self.byte(k);
+        let first = BLOCK_LEN as u32 * n;
+        let count = (self.blocks.div_ceil(8) - first).min(BLOCK_LEN as u32);
+        for k in 0..count {
+            bytes[k as usize] = self.byte(first + k);
         }
     }
 
     // The byte for eight blocks, the first of them in its lowest bit.
     fn byte(&self, k: u32) -> u8
-        requires { k < BLOCK_LEN }
+        requires { 8 * k < length self.now }
         ensures { result ≡ bits_number 8 (λ i. is_taken self.now (8 * k + i)) }
     {
         // The row has the free ones of eight blocks at once; the last byte may have fewer blocks.

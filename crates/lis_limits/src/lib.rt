@@ -10,17 +10,24 @@ pub const BLOCK_BITS: u32 = 32_768;
 /// Gates of the journal, a byte each.
 pub const GATES: u32 = 64;
 
-/// Blocks that hold the journal's records.
+/// Blocks that hold the journal's records in versions 1 and 2.
 pub const RECORD_BLOCKS: u32 = 576;
 
-/// The most blocks that can be staged for one commit.
+/// Blocks that hold the journal's records in version 3, besides one for each block of sets.
+pub const V3_RECORD_BLOCKS: u32 = 1_088;
+
+/// The most blocks that can be staged for one commit in versions 1 and 2.
 pub const MAX_STAGED: u32 = 575;
 
-/// The most blocks that one change places, that is, writes straight to their homes: the blocks of a file's content and their index.
+/// The most blocks that can be staged for one commit in version 3, besides the blocks of sets.
+pub const V3_MAX_STAGED: u32 = 893;
+
+/// The most blocks that one change places in versions 1 and 2, that is, writes straight to their homes: the blocks of a file's content and
+/// their index.
 pub const MAX_PLACED: u32 = 257;
 
-/// The first block of the properties.
-pub const PROPERTIES_START: u32 = 578;
+/// The most blocks that one change places in version 3.
+pub const V3_MAX_PLACED: u32 = 16_400;
 
 /// The most files of an image of version 1 or 2.
 pub const MAX_FILES: u32 = 4_096;
@@ -33,6 +40,9 @@ pub const MAX_BLOCKS: u32 = 32_768;
 
 /// The most blocks of an image of version 1 or 2.
 pub const MAX_IMAGE_BLOCKS: u32 = 34_771;
+
+/// The most blocks of an image of version 3.
+pub const V3_MAX_IMAGE_BLOCKS: u32 = 16_879_170;
 
 /// The most bytes of a file in version 1.
 pub const MAX_FILE: u32 = 65_536;
@@ -58,8 +68,8 @@ pub const SMALL_FILE: usize = 1_024;
 /// A file that is not small, and has fewer bytes than this, is a medium one.
 pub const MEDIUM_FILE: usize = 16_384;
 
-/// The most blocks of a content, without its index.
-pub const MAX_FILE_BLOCKS: usize = 256;
+/// The most blocks of a content of any version, without its index.
+pub const MAX_FILE_BLOCKS: usize = 16_384;
 
 /// Bytes of the slot of a word.
 pub const PROP_LEN: usize = 64;
@@ -103,10 +113,10 @@ pub const MAX_DERIVED: usize = 48;
 /// The most bytes of a word, and of the name of a file.
 pub const MAX_WORD: usize = 60;
 
-/// The most blocks of a content whose numbers are in the slot of its file. A larger one has an index block.
+/// The most blocks of a content whose numbers are in the slot of its file. A larger one has index blocks.
 pub const SLOT_BLOCKS: u32 = 16;
 
-/// How many block numbers an index block has, if each has four bytes.
+/// The most numbers that an index block has. If each has four bytes, they fill it.
 pub const NUMBERS_PER_INDEX: u32 = 1_024;
 
 /// How many words have their slots in one block.
@@ -114,3 +124,6 @@ pub const PROPERTIES_PER_BLOCK: u32 = 64;
 
 /// How many files have their slots in one block.
 pub const FILES_PER_BLOCK: u32 = 16;
+
+/// How many files have their sets in one block, in version 3.
+pub const SETS_PER_BLOCK: u32 = 8;

@@ -1,13 +1,15 @@
 -- What holds of limits in range, and of those of versions 1 and 2.
-use Rattle.std.proofs.Common.{◌≡◌, ℕ, ◌*◌, ◌≤◌, ◌%◌, ◌==◌, ◌||◌, ◌&&◌, ◌⊎◌, nat_le, Bool, true, false, cond, IsTrue, inl, inr, sym, subst, refl, arith}
+use Rattle.std.proofs.Common.{◌≡◌, ℕ, ◌+◌, ◌*◌, ◌/◌, ◌≤◌, ◌%◌, ◌==◌, ◌||◌, ◌&&◌, ◌⊎◌, nat_le, Bool, true, false, cond, IsTrue, inl, inr, sym, subst, refl, ap, arith}
 use Rattle.std.specs.List.{list_any, range_with_len}
-use Rattle.std.proofs.lemmas.Bool.{and_parts, or_cases, eqb-true, leb-true}
+use Rattle.std.proofs.lemmas.Bool.{and_parts, and_from, or_cases, eqb-true, leb-true}
 use Rattle.std.proofs.lemmas.Bool.Decides.{nat_tests}
 use Rattle.std.specs.Prelude.{◌^◌, min}
 use Rattle.std.proofs.Math.Nat.{min-le_left}
+use Rattle.std.proofs.lemmas.Nat.{mul-le}
 use Rattle.lis_model.specs.declared.limits.Limits.{Limits}
 use Rattle.lis_model.specs.Ranges.{most_files, most_props, most_blocks, is_files_limit, is_props_limit, is_blocks_limit, is_version, are_in_range, are_stored}
 use Rattle.lis_model.specs.State.{file_limit}
+use Rattle.lis_model.specs.Image.{record_blocks, description_blocks, bitmap_blocks}
 
 -- each limit is one of version 2
 pub record StoredParts (limits : Limits) : Type 0 where
@@ -140,3 +142,56 @@ stored_limit_le limits h = of_version (stored_parts limits h).version
     of_version : (limits.version ≡ 1) ⊎ (limits.version ≡ 2) → limit_in limits.version
     of_version (inl one) = subst limit_in (sym one) (omega arith)
     of_version (inr two) = subst limit_in (sym two) (omega arith)
+
+-- ---- the parts of an image
+-- limits in range are those of version 3, or of a version before it
+pub before_third : (limits : Limits) → IsTrue (are_in_range limits) → (limits.version == 3) ≡ false → IsTrue (are_stored limits)
+before_third limits h other = and_from (are_in_range limits) (nat_le limits.version 2) h (old limits.version (and_parts (is_files_limit limits.version limits.files && is_props_limit limits.version limits.props && is_blocks_limit limits.version limits.blocks) (is_version limits.version) h).1 other)
+  where
+    old : (n : ℕ) → is_version n ≡ true → (n == 3) ≡ false → nat_le n 2 ≡ true
+    old n is other = grind (arith, nat_tests)
+
+not_third : (limits : Limits) → IsTrue (are_stored limits) → (limits.version == 3) ≡ false
+not_third limits h = by (stored_parts limits h).version
+  where
+    by : (limits.version ≡ 1) ⊎ (limits.version ≡ 2) → (limits.version == 3) ≡ false
+    by (inl one) = ap (λ v. v == 3) one
+    by (inr two) = ap (λ v. v == 3) two
+
+-- in versions 1 and 2: 576 blocks of records, rows of bits, and a bitmap of one block
+pub stored_records : (limits : Limits) → IsTrue (are_stored limits) → record_blocks limits ≡ 576
+unfolding record_blocks
+stored_records limits h = ap (λ third. cond third (limits.files / 8 + 1088) 576) (not_third limits h)
+
+pub stored_descriptions : (limits : Limits) → IsTrue (are_stored limits) → description_blocks limits ≡ (limits.props * limits.files + 32767) / 32768
+unfolding description_blocks
+stored_descriptions limits h = ap (λ third. cond third (limits.files / 8) ((limits.props * limits.files + 32767) / 32768)) (not_third limits h)
+
+pub blocks_some : (n : ℕ) → is_blocks_limit 2 n ≡ true → 1 ≤ n
+blocks_some n is = grind (arith, nat_tests)
+
+pub stored_bitmap : (limits : Limits) → IsTrue (are_stored limits) → bitmap_blocks limits ≡ 1
+stored_bitmap limits h =
+    let is = (stored_parts limits h).blocks in
+    omega (arith, blocks_some limits.blocks is, blocks_few limits.blocks is)
+
+rows_fit : (limits : Limits) → IsTrue (are_stored limits) → limits.props * limits.files ≤ 33554432
+rows_fit limits h =
+    let few = few_limits limits h in
+    omega (arith, mul-le limits.props limits.files 8192 4096 few.props few.files)
+
+-- the bits of all rows can be counted
+pub described_few : (limits : Limits) → IsTrue (are_in_range limits) → (limits.version == 3) ≡ false → limits.props * limits.files ≤ 33554432
+described_few limits h other = rows_fit limits (before_third limits h other)
+
+-- few blocks have the words of the files
+pub few_descriptions : (limits : Limits) → IsTrue (are_in_range limits) → description_blocks limits ≤ 32768
+unfolding description_blocks
+few_descriptions limits h = by (limits.version == 3) refl
+  where
+    by : (third : Bool) → (limits.version == 3) ≡ third → cond third (limits.files / 8) ((limits.props * limits.files + 32767) / 32768) ≤ 32768
+    by true is = omega (arith, (within_most limits h).files)
+    by false is = omega (arith, described_few limits h is)
+
+pub fewer_descriptions : (limits : Limits) → IsTrue (are_stored limits) → description_blocks limits ≤ 1024
+fewer_descriptions limits h = omega (arith, stored_descriptions limits h, rows_fit limits h)

@@ -1,14 +1,15 @@
 //! The limits of a state.
 
 ghost use Rattle.std.specs.Prelude.{◌≡◌, ◌<◌, ◌≤◌, IsTrue};
-ghost use Rattle.lis_model.specs.Ranges.{most_files, most_props, most_blocks, is_files_limit, is_props_limit, is_blocks_limit, is_version, are_stored};
+ghost use Rattle.lis_model.specs.Ranges.{most_files, most_props, most_blocks, is_files_limit, is_props_limit, is_blocks_limit, is_version, are_in_range, are_stored};
 ghost use Rattle.lis_model.specs.State.{file_limit, blocks_taken};
-ghost use Rattle.lis_model.specs.Image.{image_blocks};
+ghost use Rattle.lis_model.specs.Image.{record_blocks, description_blocks, bitmap_blocks, image_blocks};
 
 use lis_limits::{
-    AXIOMS_PER_BLOCK, BLOCK_BITS, BLOCK_LEN, MAX_BLOCKS, MAX_FILE, MAX_FILES, MAX_IMAGE_BLOCKS,
-    MAX_LARGE_FILE, MAX_PROPS, NUMBERS_PER_INDEX, PROPERTIES_START, SLOT_BLOCKS, V3_MAX_BLOCKS,
-    V3_MAX_FILE, V3_MAX_FILES, V3_MAX_PROPS,
+    AXIOMS_PER_BLOCK, BLOCK_BITS, BLOCK_LEN, FILES_PER_BLOCK, MAX_BLOCKS, MAX_FILE, MAX_FILES,
+    MAX_IMAGE_BLOCKS, MAX_LARGE_FILE, MAX_PROPS, NUMBERS_PER_INDEX, PROPERTIES_PER_BLOCK,
+    RECORD_BLOCKS, SETS_PER_BLOCK, SLOT_BLOCKS, V3_MAX_BLOCKS, V3_MAX_FILE, V3_MAX_FILES,
+    V3_MAX_IMAGE_BLOCKS, V3_MAX_PROPS, V3_RECORD_BLOCKS,
 };
 
 /// How much a state may hold. Files are a power of two from 64 on, and properties a multiple of 64. In versions 1 and 2 they are at most
@@ -119,16 +120,49 @@ pub fn blocks_taken(version: u32, bytes: u64) -> u64
     needed + needed.div_ceil(u64::from(NUMBERS_PER_INDEX))
 }
 
-/// How many blocks of 4,096 bytes an image of version 1 or 2 with these limits has: at most 34,771.
-#[tactic(auto, using(crate::proofs::Stored::few_limits))]
-pub fn image_blocks(limits: &Limits) -> u32
-    requires { IsTrue (are_stored limits.now) }
-    ensures blocks { result ≡ image_blocks limits.now }
-    ensures few { result ≤ MAX_IMAGE_BLOCKS }
+/// How many blocks of an image hold the records of the journal, from block 2 on.
+#[tactic(auto, unfolding(crate::specs::Image::record_blocks))]
+pub fn record_blocks(limits: &Limits) -> u32
+    ensures { result ≡ record_blocks limits.now }
 {
-    let properties = limits.props / 64;
+    if limits.version == 3 {
+        limits.files / SETS_PER_BLOCK + V3_RECORD_BLOCKS
+    } else {
+        RECORD_BLOCKS
+    }
+}
+
+/// How many blocks of an image say which words each file has.
+#[tactic(auto, using(crate::proofs::Stored::described_few), unfolding(crate::specs::Image::description_blocks))]
+pub fn description_blocks(limits: &Limits) -> u32
+    requires { IsTrue (are_in_range limits.now) }
+    ensures { result ≡ description_blocks limits.now }
+{
+    if limits.version == 3 {
+        limits.files / SETS_PER_BLOCK
+    } else {
+        (limits.props * limits.files).div_ceil(BLOCK_BITS)
+    }
+}
+
+/// How many blocks the bitmap of an image has.
+pub fn bitmap_blocks(limits: &Limits) -> u32
+    ensures { result ≡ bitmap_blocks limits.now }
+{
+    limits.blocks.div_ceil(BLOCK_BITS)
+}
+
+/// How many blocks of 4,096 bytes an image with these limits has: at most 34,771 in versions 1 and 2, and 16,879,170 in version 3.
+#[tactic(auto, using(crate::proofs::Stored::within_most, crate::proofs::Stored::few_descriptions))]
+pub fn image_blocks(limits: &Limits) -> u32
+    requires { IsTrue (are_in_range limits.now) }
+    ensures blocks { result ≡ image_blocks limits.now }
+    ensures few { result ≤ V3_MAX_IMAGE_BLOCKS }
+    ensures fewer { IsTrue (are_stored limits.now) → result ≤ MAX_IMAGE_BLOCKS }
+{
+    let properties = limits.props / PROPERTIES_PER_BLOCK;
     let axioms = limits.props.div_ceil(AXIOMS_PER_BLOCK as u32);
-    let files = limits.files / 16;
-    let rows = (limits.props * limits.files).div_ceil(BLOCK_BITS);
-    PROPERTIES_START + properties + axioms + files + rows + 1 + limits.blocks
+    let files = limits.files / FILES_PER_BLOCK;
+    let slots = properties + axioms + files;
+    record_blocks(limits) + 2 + slots + description_blocks(limits) + bitmap_blocks(limits) + limits.blocks
 }
