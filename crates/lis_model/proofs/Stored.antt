@@ -195,3 +195,11 @@ few_descriptions limits h = by (limits.version == 3) refl
 
 pub fewer_descriptions : (limits : Limits) → IsTrue (are_stored limits) → description_blocks limits ≤ 1024
 fewer_descriptions limits h = omega (arith, stored_descriptions limits h, rows_fit limits h)
+
+pub few_records : (limits : Limits) → IsTrue (are_in_range limits) → record_blocks limits ≤ 33856
+unfolding record_blocks
+few_records limits h = by (limits.version == 3)
+  where
+    by : (third : Bool) → cond third (limits.files / 8 + 1088) 576 ≤ 33856
+    by true = omega (arith, (within_most limits h).files)
+    by false = omega arith

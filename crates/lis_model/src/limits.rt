@@ -153,7 +153,6 @@ pub fn bitmap_blocks(limits: &Limits) -> u32
 }
 
 /// How many blocks of 4,096 bytes an image with these limits has: at most 34,771 in versions 1 and 2, and 16,879,170 in version 3.
-#[tactic(auto, using(crate::proofs::Stored::within_most, crate::proofs::Stored::few_descriptions))]
 pub fn image_blocks(limits: &Limits) -> u32
     requires { IsTrue (are_in_range limits.now) }
     ensures blocks { result ≡ image_blocks limits.now }
