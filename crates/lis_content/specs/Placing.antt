@@ -43,16 +43,16 @@ pub record Lays (base : ℕ) (taken now_taken : List Bool) (before now : Held) (
   pub journal : now ≡ record before { records = now.records; placed = homes_of base blocks }
   pub fits : (kept : ℕ → List ℕ) → Fits before old kept → (now_kept : ℕ → List ℕ) × Fits now new now_kept × ((n : ℕ) → has_home base blocks n ≡ false → now_kept n ≡ kept n) × P now_kept
 
--- A file has these bytes and these blocks by its slot, and a well-formed index block if it has one.
-pub record HasFile (base : ℕ) (bytes slot blocks : List ℕ) (at : ℕ → List ℕ) : Type 0 where
-  pub reads : file_content base slot (length bytes) at ≡ bytes
-  pub index : IsIndexed base slot (length bytes) at
-  pub all : file_blocks base slot (length bytes) at ≡ blocks
+-- A file has these bytes and these blocks by its slot, and well-formed index blocks if it has any.
+pub record HasFile (version base : ℕ) (bytes slot blocks : List ℕ) (at : ℕ → List ℕ) : Type 0 where
+  pub reads : file_content version base slot (length bytes) at ≡ bytes
+  pub index : IsIndexed version base slot (length bytes) at
+  pub all : file_blocks version base slot (length bytes) at ≡ blocks
 
 -- The bytes are in blocks that were free, and these blocks are placed.
-pub record IsPlaced (base : ℕ) (bytes : List ℕ) (taken now_taken : List Bool) (before now : Held) (old new : Meaning) (slot : List ℕ) : Type 0 where
+pub record IsPlaced (version base : ℕ) (bytes : List ℕ) (taken now_taken : List Bool) (before now : Held) (old new : Meaning) (slot : List ℕ) : Type 0 where
   pub blocks : List ℕ
-  pub lays : Lays base taken now_taken before now old new blocks (HasFile base bytes slot blocks)
+  pub lays : Lays base taken now_taken before now old new blocks (HasFile version base bytes slot blocks)
   pub count : length blocks ≡ blocks_taken 2 (length bytes)
   pub slot_len : length slot ≡ slot_count (length bytes)
   pub slot_is : slot ≡ (if is_large (length bytes) then drop (blocks_needed (length bytes)) blocks else blocks)

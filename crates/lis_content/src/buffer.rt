@@ -10,7 +10,7 @@ ghost use Rattle.lis_content.specs.Large.{slot_count, content_blocks, file_conte
 ghost use Rattle.lis_content.specs.Inside.{kept_bytes, IsKept};
 ghost use Rattle.lis_journal.specs.Record.{homes_start};
 
-use crate::large::read_content;
+use crate::large::{Laid, read_content};
 use lis_journal::Journal;
 use lis_limits::{BLOCK_LEN, MAX_LARGE_FILE};
 use lis_ports::{Disk, Failed};
@@ -42,31 +42,22 @@ fn read_front<D: Disk>(
     items: &mut [u8],
     journal: &Journal,
     disk: &mut D,
-    base: u32,
-    blocks: &[u32],
-    size: u32,
+    laid: Laid,
 ) -> Result<(), Failed>
-    requires short { size ≤ length items.old }
-    requires few { size ≤ MAX_LARGE_FILE }
-    requires count { length blocks.now ≡ slot_count size }
-    requires home { homes_start journal.now.layout ≤ base }
-    requires within { IsTrue (are_within base journal.now.layout.blocks blocks.now) }
+    requires short { laid.size ≤ length items.old }
+    requires few { laid.size ≤ MAX_LARGE_FILE }
+    requires count { length laid.blocks.now ≡ slot_count laid.size }
+    requires home { homes_start journal.now.layout ≤ laid.base }
+    requires within { IsTrue (are_within laid.base journal.now.layout.blocks laid.blocks.now) }
     requires usable { JournalIsUsable journal.now (D.meaning disk.old) }
     ensures read { OnOk result ((kept : ℕ → List ℕ) → Fits journal.now (D.meaning disk.old) kept
-        → IsTrue (are_within base journal.now.layout.blocks (content_blocks base blocks.now size (looked journal.now.staged kept)))
-        → take size items.new ≡ file_content base blocks.now size (looked journal.now.staged kept)) }
+        → IsTrue (are_within laid.entry.base journal.now.layout.blocks (content_blocks laid.entry.version laid.entry.base laid.entry.blocks.now laid.entry.size (looked journal.now.staged kept)))
+        → take laid.entry.size items.new ≡ file_content laid.entry.version laid.entry.base laid.entry.blocks.now laid.entry.size (looked journal.now.staged kept)) }
     ensures disk { ReadsDisk (D.meaning disk.old) (D.meaning disk.new) result }
     ensures fits { (kept : ℕ → List ℕ) → Fits journal.now (D.meaning disk.old) kept
         → Fits journal.now (D.meaning disk.new) kept }
 {
-    read_content(
-        journal,
-        disk,
-        base,
-        blocks,
-        size,
-        &mut items[..size as usize],
-    )
+    read_content(journal, disk, laid, &mut items[..laid.size as usize])
 }
 
 // Reads the bytes of a file into the first bytes of a frame.
@@ -75,25 +66,23 @@ fn read_frame<D: Disk>(
     frame: &Frame,
     journal: &Journal,
     disk: &mut D,
-    base: u32,
-    blocks: &[u32],
-    size: u32,
+    laid: Laid,
 ) -> Result<(), Failed>
-    requires kept { IsKept region.old frame.now size }
-    requires count { length blocks.now ≡ slot_count size }
-    requires home { homes_start journal.now.layout ≤ base }
-    requires within { IsTrue (are_within base journal.now.layout.blocks blocks.now) }
+    requires kept { IsKept region.old frame.now laid.size }
+    requires count { length laid.blocks.now ≡ slot_count laid.size }
+    requires home { homes_start journal.now.layout ≤ laid.base }
+    requires within { IsTrue (are_within laid.base journal.now.layout.blocks laid.blocks.now) }
     requires usable { JournalIsUsable journal.now (D.meaning disk.old) }
-    ensures kept { IsKept region.new frame.now size }
+    ensures kept { IsKept region.new frame.now laid.entry.size }
     ensures read { OnOk result ((kept : ℕ → List ℕ) → Fits journal.now (D.meaning disk.old) kept
-        → IsTrue (are_within base journal.now.layout.blocks (content_blocks base blocks.now size (looked journal.now.staged kept)))
-        → kept_bytes region.new frame.now size ≡ file_content base blocks.now size (looked journal.now.staged kept)) }
+        → IsTrue (are_within laid.entry.base journal.now.layout.blocks (content_blocks laid.entry.version laid.entry.base laid.entry.blocks.now laid.entry.size (looked journal.now.staged kept)))
+        → kept_bytes region.new frame.now laid.entry.size ≡ file_content laid.entry.version laid.entry.base laid.entry.blocks.now laid.entry.size (looked journal.now.staged kept)) }
     ensures disk { ReadsDisk (D.meaning disk.old) (D.meaning disk.new) result }
     ensures fits { (kept : ℕ → List ℕ) → Fits journal.now (D.meaning disk.old) kept
         → Fits journal.now (D.meaning disk.new) kept }
 {
     let items = region.items_mut(frame);
-    read_front(items, journal, disk, base, blocks, size)
+    read_front(items, journal, disk, laid)
 }
 
 // Reads a block into this memory, from index `at` on.
@@ -174,33 +163,23 @@ impl Buffer {
         &mut self,
         journal: &Journal,
         disk: &mut D,
-        base: u32,
-        blocks: &[u32],
-        size: u32,
+        laid: Laid,
     ) -> Result<(), Failed>
-        requires short { size ≤ MAX_LARGE_FILE }
-        requires count { length blocks.now ≡ slot_count size }
-        requires home { homes_start journal.now.layout ≤ base }
-        requires within { IsTrue (are_within base journal.now.layout.blocks blocks.now) }
+        requires short { laid.size ≤ MAX_LARGE_FILE }
+        requires count { length laid.blocks.now ≡ slot_count laid.size }
+        requires home { homes_start journal.now.layout ≤ laid.base }
+        requires within { IsTrue (are_within laid.base journal.now.layout.blocks laid.blocks.now) }
         requires usable { JournalIsUsable journal.now (D.meaning disk.old) }
         ensures read { OnOk result ((kept : ℕ → List ℕ) → Fits journal.now (D.meaning disk.old) kept
-            → IsTrue (are_within base journal.now.layout.blocks (content_blocks base blocks.now size (looked journal.now.staged kept)))
-            → self.new ≡ file_content base blocks.now size (looked journal.now.staged kept)) }
-        ensures size { OnOk result (length self.new ≡ size) }
+            → IsTrue (are_within laid.entry.base journal.now.layout.blocks (content_blocks laid.entry.version laid.entry.base laid.entry.blocks.now laid.entry.size (looked journal.now.staged kept)))
+            → self.new ≡ file_content laid.entry.version laid.entry.base laid.entry.blocks.now laid.entry.size (looked journal.now.staged kept)) }
+        ensures size { OnOk result (length self.new ≡ laid.entry.size) }
         ensures disk { ReadsDisk (D.meaning disk.old) (D.meaning disk.new) result }
         ensures fits { (kept : ℕ → List ℕ) → Fits journal.now (D.meaning disk.old) kept
             → Fits journal.now (D.meaning disk.new) kept }
     {
-        self.size = size;
-        read_frame(
-            &mut self.region,
-            &self.frame,
-            journal,
-            disk,
-            base,
-            blocks,
-            size,
-        )
+        self.size = laid.size;
+        read_frame(&mut self.region, &self.frame, journal, disk, laid)
     }
 
     /// Gives the buffer `size` bytes, whichever they are.

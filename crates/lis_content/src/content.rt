@@ -1,23 +1,21 @@
-//! The bytes of a file: put into data blocks, read from them, and dropped.
+//! The bytes of a file: put into data blocks, and dropped.
 
-ghost use Rattle.std.specs.Prelude.{◌≡◌, ◌+◌, ◌≤◌, ℕ, List, [], false, length, IsTrue, OnOk, MatchResult};
-ghost use Rattle.lis_ports.specs.Calls.{ReadsDisk};
+ghost use Rattle.std.specs.Prelude.{◌≡◌, ◌+◌, ◌≤◌, [], false, length, slice_set, IsTrue, MatchResult};
 ghost use Rattle.lis_model.specs.State.{blocks_needed};
-ghost use Rattle.lis_journal.specs.Images.{Fits, JournalIsUsable};
-ghost use Rattle.lis_journal.specs.Phases.{looked};
+ghost use Rattle.lis_journal.specs.Images.{JournalIsUsable};
 ghost use Rattle.lis_blockmap.specs.Bitmap.{free_count};
-ghost use Rattle.lis_content.specs.Content.{content, given, are_taken, are_within};
+ghost use Rattle.lis_content.specs.Content.{given, are_taken};
 ghost use Rattle.lis_content.specs.Putting.{IsPut, IsRefused};
 ghost use Rattle.lis_model.specs.Sets.{are_distinct};
 ghost use Rattle.lis_journal.specs.Record.{homes_start};
 
-use crate::blocks::{home, read_front, stage_front};
+use crate::blocks::{home, stage_front};
 use crate::fault::PutFault;
 use arrayvec::ArrayVec;
 use lis_blockmap::BlockMap;
 use lis_journal::Journal;
 use lis_limits::{BLOCK_LEN, MAX_FILE, SLOT_BLOCKS};
-use lis_ports::{Disk, Failed};
+use lis_ports::Disk;
 
 /// Frees the old blocks, and stages the bytes in blocks that it takes. Whole blocks are staged, so it makes no disk call.
 pub fn put<D: Disk>(
@@ -69,7 +67,7 @@ fn stage_bytes(
     let mut rest = bytes;
     while !rest.is_empty() {
         let (front, behind) = rest.split_at(rest.len().min(BLOCK_LEN));
-        let Some(n) = map.take() else { unreachable!() };
+        let Some(n) = map.take(0) else { unreachable!() };
         stage_front(journal, home(journal.blocks(), base, n), front);
         taken.push(n);
         rest = behind;
@@ -77,40 +75,7 @@ fn stage_bytes(
     taken
 }
 
-/// Reads the bytes of a file, whole blocks straight into the buffer.
-pub fn read<D: Disk>(
-    journal: &Journal,
-    disk: &mut D,
-    base: u32,
-    blocks: &[u32],
-    size: u32,
-    buf: &mut [u8],
-) -> Result<(), Failed>
-    requires whole { length buf.old ≡ size }
-    requires count { length blocks.now ≡ blocks_needed size }
-    requires home { homes_start journal.now.layout ≤ base }
-    requires within { IsTrue (are_within base journal.now.layout.blocks blocks.now) }
-    requires usable { JournalIsUsable journal.now (D.meaning disk.old) }
-    ensures read { OnOk result ((kept : ℕ → List ℕ) → Fits journal.now (D.meaning disk.old) kept
-        → buf.new ≡ content base blocks.now size (looked journal.now.staged kept)) }
-    ensures disk { ReadsDisk (D.meaning disk.old) (D.meaning disk.new) result }
-    ensures fits { (kept : ℕ → List ℕ) → Fits journal.now (D.meaning disk.old) kept
-        → Fits journal.now (D.meaning disk.new) kept }
-{
-    for (k, n) in blocks.iter().enumerate() {
-        let at = k * BLOCK_LEN;
-        let end = buf.len().min(at + BLOCK_LEN);
-        read_front(
-            journal,
-            disk,
-            home(journal.blocks(), base, *n),
-            &mut buf[at..end],
-        )?;
-    }
-    Ok(())
-}
-
-/// Frees the blocks of a file.
+/// Frees these blocks.
 pub fn drop_file(map: &mut BlockMap, blocks: &[u32])
     requires distinct { IsTrue (are_distinct blocks.now) }
     requires taken { IsTrue (are_taken map.old blocks.now) }
@@ -120,5 +85,23 @@ pub fn drop_file(map: &mut BlockMap, blocks: &[u32])
 {
     for n in blocks {
         map.give(*n);
+    }
+}
+
+// Frees a block, if it is taken.
+fn give_taken(map: &mut BlockMap, n: u32)
+    ensures { map.new ≡ slice_set map.old n false }
+{
+    if map.is_taken(n) {
+        map.give(n);
+    }
+}
+
+/// Frees those of these blocks that are taken. In a well-formed image all blocks of a file are.
+pub fn give_all(map: &mut BlockMap, blocks: &[u32])
+    ensures { map.new ≡ given map.old blocks.now }
+{
+    for n in blocks {
+        give_taken(map, *n);
     }
 }

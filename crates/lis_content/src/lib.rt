@@ -9,10 +9,7 @@ mod large;
 mod placing;
 
 pub use buffer::Buffer;
-pub use content::{drop_file, put, read};
+pub use content::{drop_file, give_all, put};
 pub use fault::PutFault;
-pub use large::{
-    Laid, drop_large, index_numbers, is_large, read_block, read_block_by, read_content,
-    read_index_block,
-};
+pub use large::{Laid, is_large, read_block, read_content, read_next_block, read_numbers};
 pub use placing::place_file;

@@ -9,6 +9,9 @@ ghost use Rattle.lis_journal.specs.Images.{JournalIsUsable};
 ghost use Rattle.lis_model.specs.State.{blocks_needed, blocks_taken};
 ghost use Rattle.lis_blockmap.specs.Bitmap.{free_count, is_taken};
 ghost use Rattle.lis_model.specs.Sets.{fit};
+ghost use Rattle.lis_model.specs.Ranges.{most_blocks};
+ghost use Rattle.lis_fields.specs.Layouts.{number_width};
+ghost use Rattle.lis_content.specs.Large.{index_bytes};
 ghost use Rattle.lis_content.specs.Placing.{AreUnstaged, IsLaid, IsPlaced, IsTornOff, IsUnplaced, HasPlaceCause, TakesRow, RowOf, RowTorn, OnePlaced};
 ghost use Rattle.lis_content.specs.declared.fault.PutFault.TheVariants.{NoSpace};
 ghost use Rattle.lis_journal.specs.Record.{homes_start};
@@ -18,14 +21,11 @@ use crate::fault::PutFault;
 use crate::large::is_large;
 use arrayvec::ArrayVec;
 use lis_blockmap::BlockMap;
-use lis_fields::write_shorts;
+use lis_fields::{number_width, write_wide};
 use lis_journal::Journal;
-use lis_limits::{BLOCK_LEN, MAX_BLOCKS, MAX_FILE_BLOCKS, MAX_LARGE_FILE, SLOT_BLOCKS};
+use lis_limits::{BLOCK_LEN, MAX_FILE_BLOCKS, NUMBERS_PER_INDEX, SLOT_BLOCKS, V3_MAX_BLOCKS, V3_MAX_FILE};
 use lis_model::limits::blocks_taken;
 use lis_ports::{Disk, Failed};
-
-// Bytes of the numbers of as many blocks as a content has.
-const INDEX_BYTES: usize = 2 * MAX_FILE_BLOCKS;
 
 // Consecutive blocks.
 #[derive(Clone, Copy)]
@@ -49,15 +49,14 @@ fn take_next(map: &mut BlockMap, n: u32) -> bool
     true
 }
 
-// Takes consecutive free blocks, at least one and at most `most`.
-fn take_row(map: &mut BlockMap, most: u32) -> Row
+// Takes consecutive free blocks, at least one and at most `most`. The search for them begins at block `from`.
+fn take_row(map: &mut BlockMap, from: u32, most: u32) -> Row
     requires some { 0 < free_count map.old }
     requires most { (0 < most) × (most ≤ MAX_FILE_BLOCKS) }
     ensures row { TakesRow map.old map.new result.first result.count }
     ensures count { (0 < result.count) × (result.count ≤ most) }
-    ensures narrow { result.first + result.count ≤ MAX_BLOCKS }
 {
-    let Some(first) = map.take() else {
+    let Some(first) = map.take(from) else {
         unreachable!()
     };
     let limit = most.min(map.len() as u32 - first);
@@ -71,16 +70,17 @@ fn take_row(map: &mut BlockMap, most: u32) -> Row
     Row { first, count }
 }
 
-// Takes consecutive free blocks, and places the first whole blocks of the bytes in them, in one write.
+// Takes consecutive free blocks, from block `from` on if there are any, and places the first whole blocks of the bytes in them, in one write.
 fn place_row<D: Disk>(
     map: &mut BlockMap,
     journal: &mut Journal,
     disk: &mut D,
     base: u32,
+    from: u32,
     bytes: &[u8],
 ) -> Result<Row, Failed>
     requires whole { BLOCK_LEN ≤ length bytes.now }
-    requires few { length bytes.now ≤ MAX_LARGE_FILE }
+    requires few { length bytes.now ≤ V3_MAX_FILE }
     requires some { 0 < free_count map.old }
     requires home { homes_start journal.old.layout ≤ base }
     requires within { base + length map.old ≤ journal.old.layout.blocks }
@@ -90,22 +90,22 @@ fn place_row<D: Disk>(
     ensures ended { MatchResult result
         (λ row. RowOf base bytes.now map.old map.new journal.old journal.new (D.meaning disk.old) (D.meaning disk.new) row.first row.count)
         (λ _. RowTorn base map.old map.new journal.old journal.new (D.meaning disk.old) (D.meaning disk.new)) }
-    ensures narrow { IfOk result (λ row. row.first + row.count ≤ MAX_BLOCKS) }
     ensures disk { UsesDisk (D.meaning disk.old) (D.meaning disk.new) result }
 {
-    let row = take_row(map, (bytes.len() / BLOCK_LEN) as u32);
+    let row = take_row(map, from, (bytes.len() / BLOCK_LEN) as u32);
     let first = home(journal.blocks(), base, row.first);
     let front = &bytes[..row.count as usize * BLOCK_LEN];
     journal.place_run(disk, first, row.count, front)?;
     Ok(row)
 }
 
-// Takes a free block, and places the bytes as its first ones, with zeros after them.
+// Takes a free block, from block `from` on if there is one, and places the bytes as its first ones, with zeros after them.
 fn place_block<D: Disk>(
     map: &mut BlockMap,
     journal: &mut Journal,
     disk: &mut D,
     base: u32,
+    from: u32,
     bytes: &[u8],
 ) -> Result<u32, Failed>
     requires few { length bytes.now ≤ BLOCK_LEN }
@@ -118,19 +118,18 @@ fn place_block<D: Disk>(
     ensures ended { MatchResult result
         (λ n. OnePlaced base bytes.now map.old map.new journal.old journal.new (D.meaning disk.old) (D.meaning disk.new) n)
         (λ _. RowTorn base map.old map.new journal.old journal.new (D.meaning disk.old) (D.meaning disk.new)) }
-    ensures narrow { IfOk result (λ n. n < MAX_BLOCKS) }
     ensures disk { UsesDisk (D.meaning disk.old) (D.meaning disk.new) result }
 {
     let mut block = [0; BLOCK_LEN];
     fill(&mut block, bytes);
-    let row = place_row(map, journal, disk, base, &block)?;
+    let row = place_row(map, journal, disk, base, from, &block)?;
     Ok(row.first)
 }
 
 // Appends the numbers of a row to those that are there.
 fn push_row(taken: &mut ArrayVec<u32, MAX_FILE_BLOCKS>, row: Row)
     requires room { length taken.old.items + row.count ≤ MAX_FILE_BLOCKS }
-    requires narrow { row.first + row.count ≤ MAX_BLOCKS }
+    requires narrow { row.first + row.count ≤ V3_MAX_BLOCKS }
     ensures { taken.new.items ≡ taken.old.items ++ range_with_len row.first row.count }
 {
     for k in 0..row.count {
@@ -146,7 +145,7 @@ fn place_bytes<D: Disk>(
     base: u32,
     bytes: &[u8],
 ) -> Result<ArrayVec<u32, MAX_FILE_BLOCKS>, Failed>
-    requires few { length bytes.now ≤ MAX_LARGE_FILE }
+    requires few { length bytes.now ≤ V3_MAX_FILE }
     requires enough { blocks_needed (length bytes.now) ≤ free_count map.old }
     requires home { homes_start journal.old.layout ≤ base }
     requires within { base + length map.old ≤ journal.old.layout.blocks }
@@ -157,13 +156,14 @@ fn place_bytes<D: Disk>(
     ensures ended { MatchResult result
         (λ blocks. IsLaid base bytes.now map.old map.new journal.old journal.new (D.meaning disk.old) (D.meaning disk.new) blocks.items)
         (λ _. IsTornOff base map.old map.new journal.old journal.new (D.meaning disk.old) (D.meaning disk.new)) }
-    ensures short { IfOk result (λ blocks. IsTrue (fit 2 blocks.items)) }
     ensures disk { UsesDisk (D.meaning disk.old) (D.meaning disk.new) result }
 {
     let mut taken = ArrayVec::new();
     let mut rest = bytes;
+    let mut from = 0;
     while rest.len() >= BLOCK_LEN {
-        let row = place_row(map, journal, disk, base, rest)?;
+        let row = place_row(map, journal, disk, base, from, rest)?;
+        from = row.first + row.count;
         push_row(&mut taken, row);
         let (_, behind) = rest.split_at(row.count as usize * BLOCK_LEN);
         rest = behind;
@@ -171,7 +171,7 @@ fn place_bytes<D: Disk>(
     if rest.is_empty() {
         return Ok(taken);
     }
-    let n = place_block(map, journal, disk, base, rest)?;
+    let n = place_block(map, journal, disk, base, from, rest)?;
     taken.push(n);
     Ok(taken)
 }
@@ -181,10 +181,12 @@ fn place_index<D: Disk>(
     map: &mut BlockMap,
     journal: &mut Journal,
     disk: &mut D,
+    version: u32,
     base: u32,
     numbers: &[u32],
 ) -> Result<u32, Failed>
-    requires count { length numbers.now ≤ MAX_FILE_BLOCKS }
+    requires count { length numbers.now ≤ NUMBERS_PER_INDEX }
+    requires fit { IsTrue (fit (number_width version) numbers.now) }
     requires some { 0 < free_count map.old }
     requires home { homes_start journal.old.layout ≤ base }
     requires within { base + length map.old ≤ journal.old.layout.blocks }
@@ -192,15 +194,47 @@ fn place_index<D: Disk>(
     requires unstaged { AreUnstaged base map.old journal.old.staged }
     requires room { length journal.old.placed < journal.old.capacity.placed }
     ensures ended { MatchResult result
-        (λ n. OnePlaced base (flat_map (little_bytes 2) numbers.now) map.old map.new journal.old journal.new
+        (λ n. OnePlaced base (flat_map (little_bytes (number_width version)) numbers.now) map.old map.new journal.old journal.new
         (D.meaning disk.old) (D.meaning disk.new) n)
         (λ _. RowTorn base map.old map.new journal.old journal.new (D.meaning disk.old) (D.meaning disk.new)) }
     ensures disk { UsesDisk (D.meaning disk.old) (D.meaning disk.new) result }
 {
-    let mut held = [0; INDEX_BYTES];
-    let (used, _) = held.split_at_mut(2 * numbers.len());
-    write_shorts(numbers, used);
-    place_block(map, journal, disk, base, used)
+    let mut held = [0; BLOCK_LEN];
+    let (used, _) = held.split_at_mut(number_width(version) * numbers.len());
+    write_wide(numbers, used, version);
+    place_block(map, journal, disk, base, 0, used)
+}
+
+// Places index blocks with these numbers, after a content whose blocks they are. The result is the numbers of the index blocks.
+fn place_indexes<D: Disk>(
+    map: &mut BlockMap,
+    journal: &mut Journal,
+    disk: &mut D,
+    version: u32,
+    base: u32,
+    numbers: &[u32],
+) -> Result<ArrayVec<u32, 16>, Failed>
+    requires count { length numbers.now ≤ MAX_FILE_BLOCKS }
+    requires enough { (length numbers.now + (NUMBERS_PER_INDEX - 1)) / NUMBERS_PER_INDEX ≤ free_count map.old }
+    requires home { homes_start journal.old.layout ≤ base }
+    requires within { base + length map.old ≤ journal.old.layout.blocks }
+    requires usable { JournalIsUsable journal.old (D.meaning disk.old) }
+    requires unstaged { AreUnstaged base map.old journal.old.staged }
+    requires room { length journal.old.placed + (length numbers.now + (NUMBERS_PER_INDEX - 1)) / NUMBERS_PER_INDEX ≤ journal.old.capacity.placed }
+    ensures ended { MatchResult result
+        (λ slot. AreIndexesPlaced version base numbers.now map.old map.new journal.old journal.new (D.meaning disk.old) (D.meaning disk.new) slot.items)
+        (λ _. AreIndexesTorn base map.old map.new journal.old journal.new (D.meaning disk.old) (D.meaning disk.new)) }
+    ensures disk { UsesDisk (D.meaning disk.old) (D.meaning disk.new) result }
+{
+    let mut slot = ArrayVec::new();
+    let mut rest = numbers;
+    while !rest.is_empty() {
+        let (front, behind) = rest.split_at(rest.len().min(NUMBERS_PER_INDEX as usize));
+        let n = place_index(map, journal, disk, version, base, front)?;
+        slot.push(n);
+        rest = behind;
+    }
+    Ok(slot)
 }
 
 // The numbers, as a slot has them.
@@ -213,15 +247,16 @@ fn slot_of(numbers: &[u32]) -> ArrayVec<u32, 16>
     slot
 }
 
-// Places the bytes, and the index block if there is one.
+// Places the bytes, and the index blocks if there are any.
 fn place_all<D: Disk>(
     map: &mut BlockMap,
     journal: &mut Journal,
     disk: &mut D,
+    version: u32,
     base: u32,
     bytes: &[u8],
 ) -> Result<ArrayVec<u32, 16>, Failed>
-    requires few { length bytes.now ≤ MAX_LARGE_FILE }
+    requires few { length bytes.now ≤ V3_MAX_FILE }
     requires enough { blocks_taken 2 (length bytes.now) ≤ free_count map.old }
     requires home { homes_start journal.old.layout ≤ base }
     requires within { base + length map.old ≤ journal.old.layout.blocks }
@@ -230,7 +265,7 @@ fn place_all<D: Disk>(
     requires unstaged { AreUnstaged base map.old journal.old.staged }
     requires room { blocks_taken 2 (length bytes.now) ≤ journal.old.capacity.placed }
     ensures ended { MatchResult result
-        (λ slot. IsPlaced base bytes.now map.old map.new journal.old journal.new (D.meaning disk.old) (D.meaning disk.new) slot.items)
+        (λ slot. IsPlaced version base bytes.now map.old map.new journal.old journal.new (D.meaning disk.old) (D.meaning disk.new) slot.items)
         (λ _. IsTornOff base map.old map.new journal.old journal.new (D.meaning disk.old) (D.meaning disk.new)) }
     ensures disk { UsesDisk (D.meaning disk.old) (D.meaning disk.new) result }
 {
@@ -238,20 +273,21 @@ fn place_all<D: Disk>(
     if !is_large(bytes.len() as u32) {
         return Ok(slot_of(&numbers));
     }
-    let index = place_index(map, journal, disk, base, &numbers)?;
-    Ok(slot_of(&[index]))
+    place_indexes(map, journal, disk, version, base, &numbers)
 }
 
-/// Takes free blocks, and places the bytes and the index block in them: no record is written, and until the next commit a crash may leave
+/// Takes free blocks, and places the bytes and the index blocks in them: no record is written, and until the next commit a crash may leave
 /// any bytes there. The result is the numbers for the slot. After a disk fault the journal is broken.
 pub fn place_file<D: Disk>(
     map: &mut BlockMap,
     journal: &mut Journal,
     disk: &mut D,
+    version: u32,
     base: u32,
     bytes: &[u8],
 ) -> Result<ArrayVec<u32, 16>, PutFault>
-    requires few { length bytes.now ≤ MAX_LARGE_FILE }
+    requires numbered { length map.old ≤ most_blocks version }
+    requires few { length bytes.now ≤ V3_MAX_FILE }
     requires home { homes_start journal.old.layout ≤ base }
     requires within { base + length map.old ≤ journal.old.layout.blocks }
     requires usable { JournalIsUsable journal.old (D.meaning disk.old) }
@@ -259,7 +295,7 @@ pub fn place_file<D: Disk>(
     requires unstaged { AreUnstaged base map.old journal.old.staged }
     requires room { blocks_taken 2 (length bytes.now) ≤ journal.old.capacity.placed }
     ensures ended { MatchResult result
-        (λ slot. IsPlaced base bytes.now map.old map.new journal.old journal.new (D.meaning disk.old) (D.meaning disk.new) slot.items)
+        (λ slot. IsPlaced version base bytes.now map.old map.new journal.old journal.new (D.meaning disk.old) (D.meaning disk.new) slot.items)
         (λ fault. IsUnplaced base bytes.now map.old map.new journal.old journal.new (D.meaning disk.old) (D.meaning disk.new) fault) }
     ensures refused { result ≡ Err NoSpace → disk.new ≡ disk.old }
     ensures run { IsDiskRun (D.meaning disk.old) (D.meaning disk.new) }
@@ -269,7 +305,7 @@ pub fn place_file<D: Disk>(
     if u64::from(map.free()) < blocks_taken(2, bytes.len() as u64) {
         return Err(PutFault::NoSpace);
     }
-    match place_all(map, journal, disk, base, bytes) {
+    match place_all(map, journal, disk, version, base, bytes) {
         Ok(slot) => Ok(slot),
         Err(Failed) => Err(PutFault::Disk),
     }
