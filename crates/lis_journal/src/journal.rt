@@ -223,6 +223,13 @@ impl Journal {
         self.stage.layout().blocks
     }
 
+    /// The homes of the blocks that were placed since the last commit.
+    pub fn placed(&self) -> &[u32]
+        ensures { result.now ≡ self.now.placed }
+    {
+        self.placed.as_slice()
+    }
+
     /// How many blocks are staged, each of them whole.
     pub fn staged(&self) -> u32
         ensures count { result ≡ length self.now.staged }

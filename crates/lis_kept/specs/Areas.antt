@@ -6,7 +6,7 @@ use Rattle.lis_blockmap.specs.Bitmap.{is_taken, bitmap_bytes}
 use Rattle.lis_kept.specs.Rows.{row_bytes}
 use Rattle.lis_fields.specs.Layouts.{prop_bytes, axiom_bytes, file_bytes}
 use Rattle.lis_model.specs.declared.limits.Limits.{Limits}
-use Rattle.lis_model.specs.Image.{properties_start, axioms_start, files_start, rows_start, bitmap_start}
+use Rattle.lis_model.specs.Image.{properties_start, axioms_start, files_start, descriptions_start, bitmap_start, bitmap_blocks}
 use Rattle.lis_kept.specs.Metadata.{Metadata, property_at, axiom_at, record_at}
 
 pub data Area : Type 0 where
@@ -17,7 +17,7 @@ pub data Area : Type 0 where
   Bitmap : Area
 
 abbrev pub property_slots : Limits → Slots
-property_slots limits = record { first = properties_start; count = limits.props; width = PROP_LEN }
+property_slots limits = record { first = properties_start limits; count = limits.props; width = PROP_LEN }
 
 -- slots of whole blocks: those past the last number stay free
 abbrev pub axiom_slots : Limits → Slots
@@ -28,10 +28,14 @@ file_slots limits = record { first = files_start limits; count = limits.files; w
 
 -- rows of whole blocks: those past the last number have no bit
 abbrev pub row_slots : Limits → Slots
-row_slots limits = record { first = rows_start limits; count = (BLOCK_LEN / (limits.files / 8)) * ((limits.props * limits.files + (BLOCK_BITS - 1)) / BLOCK_BITS); width = limits.files / 8 }
+row_slots limits = record { first = descriptions_start limits; count = (BLOCK_LEN / (limits.files / 8)) * ((limits.props * limits.files + (BLOCK_BITS - 1)) / BLOCK_BITS); width = limits.files / 8 }
 
 abbrev pub bitmap_slots : Limits → Slots
-bitmap_slots limits = record { first = bitmap_start limits; count = 1; width = BLOCK_LEN }
+bitmap_slots limits = record { first = bitmap_start limits; count = bitmap_blocks limits; width = BLOCK_LEN }
+
+-- the block of the bitmap that has the bit of a data block
+abbrev pub bitmap_home : Limits → ℕ → ℕ
+bitmap_home limits data_block = bitmap_start limits + data_block / BLOCK_BITS
 
 abbrev pub slots_of : Limits → Area → Slots
 slots_of limits Properties = property_slots limits
@@ -50,15 +54,15 @@ spelled k Properties n = prop_bytes (property_at k.dict k.declared n)
 spelled k Axioms n = axiom_bytes (axiom_at k.axioms n)
 spelled k Files n = file_bytes k.limits.version (record_at k.catalog n)
 spelled k Rows n = row_bytes k.ext n
-spelled k Bitmap n = bitmap_bytes k.taken
+spelled k Bitmap n = bitmap_bytes n k.taken
 
--- the bytes of a slot, by what each block holds; the bitmap is a whole block
+-- the bytes of a slot, by what each block holds; a slot of the bitmap is a whole block
 abbrev pub held_in : Limits → Area → (ℕ → List ℕ) → ℕ → List ℕ
 held_in limits Properties at n = slot (property_slots limits) at n
 held_in limits Axioms at n = slot (axiom_slots limits) at n
 held_in limits Files at n = slot (file_slots limits) at n
 held_in limits Rows at n = slot (row_slots limits) at n
-held_in limits Bitmap at n = at (bitmap_start limits)
+held_in limits Bitmap at n = at (bitmap_start limits + n)
 
 -- every slot is spelled by what memory keeps
 abbrev pub IsWritten : Metadata → (ℕ → List ℕ) → Type 0

@@ -1,5 +1,5 @@
 -- The changes of memory. Each marks the blocks that it touches, and says what becomes of the state.
-use Rattle.std.specs.Prelude.{◌≡◌, ◌⊎◌, ℕ, ◌+◌, ◌<◌, ◌≤◌, nat_lt, Bool, true, false, ◌&&◌, not, if◌then◌else◌, is_some, Some, None, List, [], length, map, slice_set, IsTrue}
+use Rattle.std.specs.Prelude.{◌≡◌, ◌⊎◌, ℕ, ◌+◌, ◌<◌, ◌≤◌, nat_lt, Bool, true, false, ◌&&◌, not, if◌then◌else◌, is_some, Some, None, List, [], length, map, filter, slice_set, IsTrue}
 use Rattle.lis_journal.specs.Journal.{Held, shape_of}
 use Rattle.lis_ports.specs.Meaning.{Meaning}
 use Rattle.lis_ports.specs.Runs.{Leaves}
@@ -17,11 +17,11 @@ use Rattle.lis_ext.specs.Numbers.{differs, numbers_where}
 use Rattle.lis_fields.specs.Records.{FileRecord}
 use Rattle.lis_fields.specs.Layouts.{are_blocks}
 use Rattle.lis_model.specs.declared.limits.Limits.{Limits}
-use Rattle.lis_model.specs.Image.{bitmap_start, data_start}
+use Rattle.lis_model.specs.Image.{bitmap_blocks, data_start}
 use Rattle.lis_model.specs.Sets.{with_word, are_distinct, has_number}
 use Rattle.lis_model.specs.Changes.{declared_under, new_file, file_added, file_removed}
 use Rattle.lis_kept.specs.Metadata.{Metadata}
-use Rattle.lis_kept.specs.Areas.{IsSaved, block_of, marked_count}
+use Rattle.lis_kept.specs.Areas.{IsSaved, block_of, bitmap_home, marked_count}
 use Rattle.lis_kept.specs.Areas.Area.{Properties, Files as FileArea, Rows}
 use Rattle.lis_kept.specs.Telling.{state_of, words_told, bytes_told, blocks_told, is_used, AreUsed}
 
@@ -105,25 +105,30 @@ pub record Files (slot : ℕ) (rec : FileRecord) (p q : Metadata) : Type 0 where
   pub state : (at : ℕ → List ℕ) → state_of q at ≡ file_added (state_of p at) (new_file rec.name (words_told p.dict rec.tags) (bytes_told p.limits at rec))
 
 -- ---- blocks
--- Other blocks are taken than before, and the block of the bitmap is marked.
-pub record Takes (taken : List Bool) (p q : Metadata) : Type 0 where
-  pub metadata : q ≡ record p { taken = taken; marks = slice_set p.marks (bitmap_start p.limits) true }
-  pub len : length taken ≡ length p.taken
-  pub marks : Marks 1 p q
+-- the blocks of the bitmap with the bits of these data blocks, as far as the image has them
+abbrev pub bitmap_homes : Limits → List ℕ → List ℕ
+bitmap_homes limits blocks = map (bitmap_home limits) (filter (λ b. nat_lt b limits.blocks) blocks)
 
--- The blocks of a file are freed: those that its slot and its index block number, by what the disk keeps under this journal. Without an
--- index block they are those of the slot, whatever the disk keeps.
+-- Of these blocks others are taken than before, and exactly the blocks of the bitmap that have their bits are marked.
+pub record Takes (blocks : List ℕ) (taken : List Bool) (p q : Metadata) : Type 0 where
+  pub metadata : q ≡ record p { taken = taken; marks = marked p.marks (bitmap_homes p.limits blocks) }
+  pub len : length taken ≡ length p.taken
+  pub marks : Marks (bitmap_blocks p.limits) p q
+
+-- The blocks of a file are freed: those that its slot and its index blocks number, by what the disk keeps under this journal. Without index
+-- blocks they are those of the slot, whatever the disk keeps.
 pub record GivesBack (rec : FileRecord) (p q : Metadata) (journal : Held) (m : Meaning) : Type 0 where
-  pub takes : Takes q.taken p q
-  pub small : is_large rec.size ≡ false → q.taken ≡ given p.taken rec.blocks
-  pub given : (kept : ℕ → List ℕ) → Fits journal m kept → q.taken ≡ given p.taken (blocks_told p.limits (looked journal.staged kept) rec)
+  pub blocks : List ℕ
+  pub takes : Takes blocks (given p.taken blocks) p q
+  pub small : is_large rec.size ≡ false → blocks ≡ rec.blocks
+  pub told : (kept : ℕ → List ℕ) → Fits journal m kept → blocks ≡ blocks_told p.limits (looked journal.staged kept) rec
 
 -- Blocks hold a content: the disk keeps the same as before in all others, and in these the bytes, which the numbers give.
 pub record Lands (limits : Limits) (bytes numbers blocks : List ℕ) (at : ℕ → List ℕ) (new : Held) (after : Meaning) : Type 0 where
   pub kept : ℕ → List ℕ
   pub fits : Fits new after kept
   pub same : (n : ℕ) → has_home (data_start limits) blocks n ≡ false → looked new.staged kept n ≡ at n
-  pub holds : HasFile (data_start limits) bytes numbers blocks (looked new.staged kept)
+  pub holds : HasFile limits.version (data_start limits) bytes numbers blocks (looked new.staged kept)
 
 -- A content is put into free blocks, or a put of it was begun: at any moment a crash leaves all other blocks as before.
 pub record Fills (blocks : List ℕ) (p : Metadata) (old : Held) (before after : Meaning) : Type 0 where
@@ -132,12 +137,12 @@ pub record Fills (blocks : List ℕ) (p : Metadata) (old : Held) (before after :
   pub moments : (kept : ℕ → List ℕ) → Fits old before kept → Leaves before after (StandsBut old.layout (homes_of (data_start p.limits) blocks) kept)
   pub past : (kept : ℕ → List ℕ) → Fits old before kept → KeepsPast old.layout.blocks before after
 
--- A content is put into free blocks, which are taken: staged, or placed with an index block if it is large. `old` and `new` are the journal
+-- A content is put into free blocks, which are taken: staged, or placed with index blocks if it is large. `old` and `new` are the journal
 -- before and after. Nothing else is staged or placed.
 pub record Puts (bytes numbers : List ℕ) (p q : Metadata) (old new : Held) (before after : Meaning) : Type 0 where
   pub blocks : List ℕ
   pub fills : Fills blocks p old before after
-  pub takes : Takes (marked p.taken blocks) p q
+  pub takes : Takes blocks (marked p.taken blocks) p q
   pub in_form : IsTrue (are_blocks p.limits.version (length bytes) numbers)
   pub below : IsTrue (list_all (λ n. nat_lt n p.limits.blocks) numbers)
   pub image : shape_of new ≡ shape_of old

@@ -12,7 +12,7 @@ use Rattle.lis_kept.specs.Metadata.{Metadata}
 use Rattle.lis_kept.specs.Areas.{Area, slots_of, block_of, spelled, held_in, is_marked, IsSaved, property_slots, axiom_slots, file_slots, row_slots}
 use Rattle.lis_kept.specs.Areas.Area.{Properties, Axioms, Files, Rows, Bitmap}
 
--- the bytes of a slot in its block; the bitmap is the whole block
+-- the bytes of a slot in its block; a slot of the bitmap is the whole block
 abbrev pub bytes_in : Limits → Area → ℕ → List ℕ → List ℕ
 bytes_in limits Properties m block = part (place (property_slots limits) m) PROP_LEN block
 bytes_in limits Axioms m block = part (place (axiom_slots limits) m) 8 block
@@ -43,7 +43,7 @@ pub record StagedBelow (k : Metadata) (end : ℕ) (old new : Held) : Type 0 wher
   pub placed : new.placed ≡ old.placed
   pub broken : new.is_broken ≡ old.is_broken
   pub few : length new.staged ≤ length old.staged + count_by (λ (b : Bool). b) (take end k.marks)
-  pub some : (n : ℕ) → properties_start ≤ n → n < end → is_marked k n ≡ true → 0 < length new.staged
+  pub some : (n : ℕ) → properties_start k.limits ≤ n → n < end → is_marked k n ≡ true → 0 < length new.staged
   pub written : (kept : ℕ → List ℕ) → IsSaved k (looked old.staged kept) → (area : Area) (m : ℕ) → m < (slots_of k.limits area).count
       → (block_of k.limits area m < end) ⊎ (is_marked k (block_of k.limits area m) ≡ false) → held_in k.limits area (looked new.staged kept) m ≡ spelled k area m
-  pub others : (other : ℕ) (was : List ℕ) → (other < properties_start) ⊎ (end ≤ other) → look new.staged other was ≡ look old.staged other was
+  pub others : (other : ℕ) (was : List ℕ) → (other < properties_start k.limits) ⊎ (end ≤ other) → look new.staged other was ≡ look old.staged other was

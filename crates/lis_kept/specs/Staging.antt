@@ -14,6 +14,6 @@ pub record Stages (k : Metadata) (old new : Held) : Type 0 where
   pub placed : new.placed ≡ old.placed
   pub broken : new.is_broken ≡ old.is_broken
   pub few : length new.staged ≤ length old.staged + marked_count k
-  pub some : (n : ℕ) → properties_start ≤ n → n < data_start k.limits → is_marked k n ≡ true → 0 < length new.staged
+  pub some : (n : ℕ) → properties_start k.limits ≤ n → n < data_start k.limits → is_marked k n ≡ true → 0 < length new.staged
   pub written : (kept : ℕ → List ℕ) → IsSaved k (looked old.staged kept) → IsWritten k (looked new.staged kept)
-  pub others : (n : ℕ) (was : List ℕ) → (n < properties_start) ⊎ (data_start k.limits ≤ n) → look new.staged n was ≡ look old.staged n was
+  pub others : (n : ℕ) (was : List ℕ) → (n < properties_start k.limits) ⊎ (data_start k.limits ≤ n) → look new.staged n was ≡ look old.staged n was

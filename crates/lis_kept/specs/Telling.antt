@@ -58,7 +58,7 @@ axioms_of k = fold (insert_key pair_cmp) [] (pairs_told k.dict k.axioms)
 -- ---- files
 -- the bytes of a file, by its record and by what each block holds
 abbrev pub bytes_told : Limits → (ℕ → List ℕ) → FileRecord → List ℕ
-bytes_told limits at rec = file_content (data_start limits) rec.blocks rec.size at
+bytes_told limits at rec = file_content limits.version (data_start limits) rec.blocks rec.size at
 
 abbrev pub file_told : Limits → Dict → (ℕ → List ℕ) → Filed → File
 file_told limits dict at f = record {
@@ -67,13 +67,13 @@ file_told limits dict at f = record {
   assigned = words_told dict f.rec.tags;
 }
 
--- all data blocks of a file, and its index block if it has one
+-- all data blocks of a file, and its index blocks if it has any
 abbrev pub blocks_told : Limits → (ℕ → List ℕ) → FileRecord → List ℕ
-blocks_told limits at rec = file_blocks (data_start limits) rec.blocks rec.size at
+blocks_told limits at rec = file_blocks limits.version (data_start limits) rec.blocks rec.size at
 
--- the index block, if the file has one, is well formed
+-- each index block, if the file has any, is well formed
 abbrev pub HasIndex : Limits → (ℕ → List ℕ) → FileRecord → Type 0
-HasIndex limits at rec = IsIndexed (data_start limits) rec.blocks rec.size at
+HasIndex limits at rec = IsIndexed limits.version (data_start limits) rec.blocks rec.size at
 
 -- ---- the state
 abbrev pub state_of : Metadata → (ℕ → List ℕ) → State

@@ -19,7 +19,8 @@ mod words;
 pub use joining::Fields;
 pub use metadata::Metadata;
 pub use places::{
-    axioms_start, bitmap_start, data_start, files_start, image_capacity, image_layout, rows_start,
+    axioms_start, bitmap_start, data_start, descriptions_start, files_start, image_capacity,
+    image_layout, laid_by, properties_start,
 };
 pub use test_edges::link_next;
 pub use words::link_head;

@@ -6,7 +6,9 @@ ghost use Rattle.lis_model.specs.Image.{properties_start, bitmap_start, data_sta
 ghost use Rattle.lis_journal.specs.Journal.{shape_of};
 ghost use Rattle.lis_kept.specs.Image.{image_shape};
 
-use crate::places::{axioms_start, bitmap_start, data_start, files_start, rows_start};
+use crate::places::{
+    axioms_start, bitmap_start, data_start, descriptions_start, files_start, properties_start,
+};
 use crate::rows::write_rows;
 use crate::spelling::{write_axioms, write_files, write_properties};
 use lis_bits::Flags;
@@ -16,9 +18,7 @@ use lis_dict::Dict;
 use lis_ext::Ext;
 use lis_fields::AxiomSlot;
 use lis_journal::Journal;
-use lis_limits::{
-    AXIOMS_PER_BLOCK, BLOCK_LEN, FILES_PER_BLOCK, PROPERTIES_PER_BLOCK, PROPERTIES_START,
-};
+use lis_limits::{AXIOMS_PER_BLOCK, BLOCK_LEN, FILES_PER_BLOCK, PROPERTIES_PER_BLOCK};
 use lis_model::limits::Limits;
 use lis_taxonomy::Taxonomy;
 use std::marker::Model;
@@ -78,7 +78,7 @@ impl Metadata {
         ensures sound { AreSound self.now }
     {
         let end = data_start(self.limits());
-        for n in PROPERTIES_START..end {
+        for n in properties_start(self.limits())..end {
             if self.is_marked(n) {
                 self.stage_block(journal, n);
             }
@@ -107,12 +107,13 @@ impl Metadata {
         requires unbroken { journal.old.is_broken ≡ false }
         requires unplaced { is_among journal.old.placed n ≡ false }
         requires room { length journal.old.staged < journal.old.capacity.staged }
-        requires from { properties_start ≤ n }
+        requires from { properties_start self.now.limits ≤ n }
         requires to { n < data_start self.now.limits }
         ensures { StagesBlock self.now n journal.old journal.new }
     {
-        if n == bitmap_start(&self.limits) {
-            self.map.stage_to(journal, n);
+        let bitmap = bitmap_start(&self.limits);
+        if n >= bitmap {
+            self.map.stage_to(journal, n, n - bitmap);
             return;
         }
         let mut block = [0; BLOCK_LEN];
@@ -123,14 +124,14 @@ impl Metadata {
     // Writes a block of slots or rows.
     #[tactic(auto, using(crate::proofs::InArea::few_properties, crate::proofs::InArea::few_files))]
     fn write_block(&self, n: u32, block: &mut [u8])
-        requires from { properties_start ≤ n }
+        requires from { properties_start self.now.limits ≤ n }
         requires to { n < bitmap_start self.now.limits }
         requires whole { length block.old ≡ BLOCK_LEN }
         ensures { IsBlock self.now n block.new }
     {
         let axioms = axioms_start(&self.limits);
         if n < axioms {
-            let first = PROPERTIES_PER_BLOCK * (n - PROPERTIES_START);
+            let first = PROPERTIES_PER_BLOCK * (n - properties_start(&self.limits));
             write_properties(&self.dict, &self.declared, first, block);
             return;
         }
@@ -140,7 +141,7 @@ impl Metadata {
             write_axioms(self.axioms.as_slice(), first, block);
             return;
         }
-        let rows = rows_start(&self.limits);
+        let rows = descriptions_start(&self.limits);
         if n < rows {
             let first = FILES_PER_BLOCK * (n - files);
             write_files(&self.catalog, &self.limits, first, block);

@@ -1,24 +1,21 @@
 //! How an image is divided, and where its parts begin, in blocks.
 
 ghost use Rattle.std.specs.Prelude.{◌≡◌, ◌≤◌, IsTrue};
-ghost use Rattle.lis_kept.specs.Image.{record_blocks, image_layout, image_capacity};
+ghost use Rattle.lis_kept.specs.Image.{most_staged, most_placed, image_layout, image_capacity};
 ghost use Rattle.lis_model.specs.Ranges.{are_stored};
-ghost use Rattle.lis_model.specs.Image.{axioms_start, files_start, rows_start, bitmap_start, data_start};
+ghost use Rattle.lis_model.specs.Image.{properties_start, axioms_start, files_start, descriptions_start, bitmap_start, data_start};
 
+use lis_content::Laid;
+use lis_fields::FileRec;
 use lis_journal::{Capacity, Layout};
 use lis_limits::{
-    AXIOMS_PER_BLOCK, MAX_IMAGE_BLOCKS, MAX_PLACED, MAX_STAGED, PROPERTIES_START, RECORD_BLOCKS,
+    AXIOMS_PER_BLOCK, FILES_PER_BLOCK, MAX_IMAGE_BLOCKS, MAX_PLACED, MAX_STAGED,
+    PROPERTIES_PER_BLOCK, SETS_PER_BLOCK, V3_MAX_PLACED, V3_MAX_STAGED,
 };
-use lis_model::limits::{Limits, image_blocks};
-
-// How many blocks of an image hold records.
-fn record_blocks(_limits: &Limits) -> u32
-    ensures { result ≡ record_blocks _limits.now }
-{
-    RECORD_BLOCKS
-}
+use lis_model::limits::{Limits, bitmap_blocks, image_blocks, record_blocks};
 
 /// How an image of these limits is divided.
+#[tactic(auto, using(lis_model::proofs::Stored::stored_range))]
 pub fn image_layout(limits: &Limits) -> Layout
     requires { IsTrue (are_stored limits.now) }
     ensures { result ≡ image_layout limits.now }
@@ -29,14 +26,46 @@ pub fn image_layout(limits: &Limits) -> Layout
     }
 }
 
+// The most blocks of one record.
+#[tactic(auto, unfolding(crate::specs::Image::most_staged))]
+fn most_staged(limits: &Limits) -> u32
+    ensures { result ≡ most_staged limits.now }
+{
+    if limits.version == 3 {
+        limits.files / SETS_PER_BLOCK + V3_MAX_STAGED
+    } else {
+        MAX_STAGED
+    }
+}
+
+// The most blocks of a content, with its index blocks.
+#[tactic(auto, unfolding(crate::specs::Image::most_placed))]
+fn most_placed(limits: &Limits) -> u32
+    ensures { result ≡ most_placed limits.now }
+{
+    if limits.version == 3 {
+        V3_MAX_PLACED
+    } else {
+        MAX_PLACED
+    }
+}
+
 /// How many of its blocks can be staged, and how many placed, before a commit.
-pub fn image_capacity(_limits: &Limits) -> Capacity
-    ensures { result ≡ image_capacity _limits.now }
+pub fn image_capacity(limits: &Limits) -> Capacity
+    ensures { result ≡ image_capacity limits.now }
 {
     Capacity {
-        staged: MAX_STAGED,
-        placed: MAX_PLACED,
+        staged: most_staged(limits),
+        placed: most_placed(limits),
     }
+}
+
+/// The first block of property slots.
+pub fn properties_start(limits: &Limits) -> u32
+    requires { IsTrue (are_stored limits.now) }
+    ensures { result ≡ properties_start limits.now }
+{
+    record_blocks(limits) + 2
 }
 
 /// The first block of axiom slots.
@@ -44,7 +73,7 @@ pub fn axioms_start(limits: &Limits) -> u32
     requires { IsTrue (are_stored limits.now) }
     ensures { result ≡ axioms_start limits.now }
 {
-    PROPERTIES_START + limits.props / 64
+    properties_start(limits) + limits.props / PROPERTIES_PER_BLOCK
 }
 
 /// The first block of file slots.
@@ -55,12 +84,12 @@ pub fn files_start(limits: &Limits) -> u32
     axioms_start(limits) + limits.props.div_ceil(AXIOMS_PER_BLOCK as u32)
 }
 
-/// The first block of extension rows.
-pub fn rows_start(limits: &Limits) -> u32
+/// The first block that says which words each file has.
+pub fn descriptions_start(limits: &Limits) -> u32
     requires { IsTrue (are_stored limits.now) }
-    ensures { result ≡ rows_start limits.now }
+    ensures { result ≡ descriptions_start limits.now }
 {
-    files_start(limits) + limits.files / 16
+    files_start(limits) + limits.files / FILES_PER_BLOCK
 }
 
 /// The first data block.
@@ -72,10 +101,26 @@ pub fn data_start(limits: &Limits) -> u32
     image_blocks(limits) - limits.blocks
 }
 
-/// The block of the bitmap.
+/// The first block of the bitmap.
 pub fn bitmap_start(limits: &Limits) -> u32
     requires { IsTrue (are_stored limits.now) }
     ensures { result ≡ bitmap_start limits.now }
 {
-    data_start(limits) - 1
+    data_start(limits) - bitmap_blocks(limits)
+}
+
+/// Where the content of a file is, by its record.
+pub fn laid_by<'a>(limits: &Limits, rec: &'a FileRec) -> Laid<'a>
+    requires { IsTrue (are_stored limits.now) }
+    ensures version { result.version ≡ limits.now.version }
+    ensures base { result.base ≡ data_start limits.now }
+    ensures blocks { result.blocks.now ≡ rec.now.blocks }
+    ensures size { result.size ≡ rec.now.size }
+{
+    Laid {
+        version: limits.version,
+        base: data_start(limits),
+        blocks: rec.blocks.as_slice(),
+        size: rec.size,
+    }
 }

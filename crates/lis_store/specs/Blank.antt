@@ -12,4 +12,4 @@ use Rattle.lis_model.specs.Image.{properties_start, data_start, image_blocks}
 pub record IsBlank (limits : Limits) (image : List ℕ) : Type 0 where
   pub long : BLOCK_LEN * image_blocks limits ≤ length image
   pub gates : part BLOCK_LEN GATES image ≡ replicate GATES 0
-  pub homes : (n : ℕ) → properties_start ≤ n → n < data_start limits → block n image ≡ zeros BLOCK_LEN
+  pub homes : (n : ℕ) → properties_start limits ≤ n → n < data_start limits → block n image ≡ zeros BLOCK_LEN

@@ -14,16 +14,16 @@ use Rattle.lis_content.specs.Placing.{Asks, homes_of}
 use Rattle.lis_fields.specs.Records.{FileRecord}
 use Rattle.lis_fields.specs.Layouts.{are_blocks}
 use Rattle.lis_model.specs.declared.limits.Limits.{Limits}
-use Rattle.lis_model.specs.Image.{bitmap_start, data_start}
+use Rattle.lis_model.specs.Image.{bitmap_blocks, data_start}
 use Rattle.lis_model.specs.State.{file_limit}
 use Rattle.lis_kept.specs.Metadata.{Metadata}
-use Rattle.lis_kept.specs.Areas.{is_marked}
+use Rattle.lis_kept.specs.Areas.{is_marked, bitmap_home}
 use Rattle.lis_kept.specs.Sound.{AreSound}
 use Rattle.lis_kept.specs.Telling.{blocks_told}
 use Rattle.lis_kept.specs.Changes.{Marks, Lands, GivesBack, Puts}
 use Rattle.lis_store.specs.declared.change_fault.ChangeFault.{ChangeFault}
 use Rattle.lis_store.specs.declared.change_fault.ChangeFault.TheVariants.{Refused, Disk}
-use Rattle.lis_model.specs.Sets.{are_distinct}
+use Rattle.lis_model.specs.Sets.{are_distinct, has_number}
 use Rattle.lis_kept.specs.Image.{image_shape}
 use Rattle.lis_store.specs.Stored.{Stored}
 use Rattle.lis_store.specs.Changes.{ChangesDisk, EndsUnrefused}
@@ -96,8 +96,7 @@ pub record IsRenewed (bytes numbers blocks : List ℕ) (gone : Option FileRecord
 -- except placed ones, which are among spare ones that were free.
 pub record Renews (bytes numbers : List ℕ) (gone : Option FileRecord) (p q : Metadata) (old new : Held) (before after : Meaning) : Type 0 where
   pub metadata : q ≡ record p { taken = q.taken; marks = q.marks }
-  pub marks : Marks 2 p q
-  pub bitmap : is_marked q (bitmap_start p.limits) ≡ true
+  pub marks : Marks (bitmap_blocks p.limits) p q
   pub in_form : IsTrue (are_blocks p.limits.version (length bytes) numbers)
   pub below : IsTrue (list_all (λ n. nat_lt n p.limits.blocks) numbers)
   pub image : shape_of new ≡ shape_of old
@@ -107,6 +106,8 @@ pub record Renews (bytes numbers : List ℕ) (gone : Option FileRecord) (p q : M
   pub spare : List ℕ
   pub were_free : IsTrue (are_free p.taken spare)
   pub placed : (n : ℕ) → is_among new.placed n ≡ true → has_home (data_start p.limits) spare n ≡ true
+  -- the bits of what is placed are yet to be written
+  pub bitmap : (n : ℕ) → has_number spare n ≡ true → is_marked q (bitmap_home p.limits n) ≡ true
   pub moments : (kept : ℕ → List ℕ) → Fits old before kept → Leaves before after (StandsBut old.layout new.placed kept)
   pub past : (kept : ℕ → List ℕ) → Fits old before kept → KeepsPast old.layout.blocks before after
   pub blocks : List ℕ

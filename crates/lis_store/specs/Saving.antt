@@ -1,15 +1,15 @@
 -- How a command ends: what is marked is staged, and all that is staged is committed, or held back.
-use Rattle.std.specs.Prelude.{◌≡◌, ℕ, ◌+◌, ◌<◌, ◌≤◌, true, false, List, [], length, replicate, Result, OnOk, OnErr}
+use Rattle.std.specs.Prelude.{◌-◌, ◌≡◌, ℕ, ◌+◌, ◌<◌, ◌≤◌, true, false, List, [], length, replicate, Result, OnOk, OnErr}
 use Rattle.lis_ports.specs.Meaning.{Meaning}
 use Rattle.lis_ports.specs.Runs.{Leaves}
 use Rattle.lis_journal.specs.Journal.{Held, shape_of}
 use Rattle.lis_journal.specs.Images.{StandsBut, StandsForAllOrNone, Fits, KeepsPast, is_among}
 use Rattle.lis_journal.specs.Phases.{looked}
-use Rattle.lis_model.specs.Image.{bitmap_start, data_start}
+use Rattle.lis_model.specs.Image.{data_start}
 use Rattle.lis_model.specs.State.{State}
 use Rattle.lis_model.specs.Step.{Situation, Outcome, changed}
 use Rattle.lis_kept.specs.Metadata.{Metadata}
-use Rattle.lis_kept.specs.Areas.{IsSaved, is_marked, marked_count}
+use Rattle.lis_kept.specs.Areas.{IsSaved, is_marked, bitmap_home, marked_count}
 use Rattle.lis_kept.specs.Image.{image_shape}
 use Rattle.lis_kept.specs.Sound.{AreSound}
 use Rattle.lis_kept.specs.Telling.{Tells}
@@ -26,9 +26,9 @@ clean k = record k { marks = replicate (length k.marks) false }
 abbrev pub settled : Metadata → Held → Stored
 settled k j = record { metadata = clean k; journal = record j { staged = []; placed = [] }; is_broken = false }
 
--- Placed blocks are data blocks, and if there are any the block of the bitmap is marked.
+-- Placed blocks are data blocks, and the blocks of the bitmap that have their bits are marked.
 abbrev pub ArePlaced : Metadata → Held → Type 0
-ArePlaced k j = (n : ℕ) → is_among j.placed n ≡ true → (data_start k.limits ≤ n) × (is_marked k (bitmap_start k.limits) ≡ true)
+ArePlaced k j = (n : ℕ) → is_among j.placed n ≡ true → (data_start k.limits ≤ n) × (is_marked k (bitmap_home k.limits (n - data_start k.limits)) ≡ true)
 
 -- What is required of memory that will be saved.
 pub record MayBeSaved (k : Stored) : Type 0 where

@@ -1,5 +1,5 @@
 -- When an image represents a state.
-use Rattle.std.specs.Prelude.{◌≡◌, ℕ, ◌*◌, ◌/◌, ◌<◌, ◌≤◌, nat_lt, Bool, true, false, ◌&&◌, Option, Some, None, is_some, List, [], ◌∷◌, length, map, drop, replicate, slice_get, slice_index_or, IsTrue}
+use Rattle.std.specs.Prelude.{◌≡◌, ℕ, ◌+◌, ◌*◌, ◌/◌, ◌<◌, ◌≤◌, nat_lt, Bool, true, false, ◌&&◌, Option, Some, None, is_some, List, [], ◌∷◌, length, map, drop, replicate, slice_get, slice_index_or, IsTrue}
 use Rattle.std.specs.Option.{option_to_list}
 use Rattle.std.specs.BTreeSet.{insert_key}
 use Rattle.std.specs.List.{fold, flat_map, list_all, Contains}
@@ -20,7 +20,7 @@ use Rattle.lis_fields.specs.declared.slots.FileSlot.TheVariants.{Free as FreeFil
 use Rattle.lis_fields.specs.Layouts.{SpellsSuper, prop_bytes, is_prop, axiom_bytes, is_axiom, file_bytes, is_file}
 use Rattle.lis_words.specs.Words.{has_word}
 use Rattle.lis_model.specs.declared.limits.Limits.{Limits}
-use Rattle.lis_model.specs.Image.{bitmap_start, image_blocks}
+use Rattle.lis_model.specs.Image.{bitmap_start, bitmap_blocks, image_blocks}
 use Rattle.lis_model.specs.Ranges.{are_stored}
 use Rattle.lis_model.specs.Sets.{set_of, are_distinct}
 use Rattle.lis_model.specs.State.{State, File, pair_cmp, file_cmp, known, description, WellFormed}
@@ -141,7 +141,8 @@ pub record Spells (limits : Limits) (contents : Contents) (at : ℕ → List ℕ
   pub indexed : (rec : FileRecord) → Contains (all_records contents.files) rec → HasIndex limits at rec
   pub blocks : IsTrue (list_all (λ n. nat_lt n limits.blocks) (all_blocks limits at (all_records contents.files)))
   pub each_block_once : IsTrue (are_distinct (all_blocks limits at (all_records contents.files)))
-  pub bitmap : at (bitmap_start limits) ≡ bitmap_bytes (marked (replicate limits.blocks false) (all_blocks limits at (all_records contents.files)))
+  pub bitmap : (n : ℕ) → n < bitmap_blocks limits
+      → at (bitmap_start limits + n) ≡ bitmap_bytes n (marked (replicate limits.blocks false) (all_blocks limits at (all_records contents.files)))
   pub rows : (p : ℕ) → p < (row_slots limits).count → slot (row_slots limits) at p ≡ bits_bytes (limits.files / 8) (row_bit s limits contents at p)
 
 -- The image has a super block with the state's limits, is as long as these say, and has a replayed image that spells the state. What is

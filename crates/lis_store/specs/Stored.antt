@@ -9,7 +9,7 @@ use Rattle.lis_journal.specs.Staging.{are_whole}
 use Rattle.lis_dict.specs.Dict.{word_of}
 use Rattle.lis_ext.specs.Ext.{has, set_of as numbers_at, empty_ext}
 use Rattle.lis_catalog.specs.Catalog.{rec_at}
-use Rattle.lis_content.specs.Large.{is_large, index_home}
+use Rattle.lis_content.specs.Large.{HasNumber, MayHaveNumber}
 use Rattle.lis_fields.specs.Records.{FileRecord}
 use Rattle.lis_fields.specs.declared.slots.AxiomSlot.TheVariants.{Free as FreeAxiom, Pair}
 use Rattle.lis_model.specs.declared.limits.Limits.{Limits}
@@ -117,8 +117,9 @@ empty_stored limits blocks = record {
   is_broken = false;
 }
 
--- If the disk reads as these bytes, `index` is the index block of the file in the slot, if it has one.
-abbrev pub IsIndex : Stored → List ℕ → ℕ → List ℕ → Type 0
-IsIndex k bytes slot index =
-    (rec : FileRecord) → rec_at k.metadata.catalog slot ≡ Some rec → is_large rec.size ≡ true
-    → index ≡ held_in k.journal bytes (index_home (data_start k.metadata.limits) rec.blocks)
+-- If the disk reads as these bytes, `index` is the index block with the number of the n-th block of the file in the slot, if it has index
+-- blocks. Or that number is the first of its index block.
+abbrev pub IsIndex : Stored → List ℕ → ℕ → ℕ → List ℕ → Type 0
+IsIndex k bytes slot n index =
+    (rec : FileRecord) → rec_at k.metadata.catalog slot ≡ Some rec
+    → MayHaveNumber (data_start k.metadata.limits) rec.blocks rec.size n (held_in k.journal bytes) index

@@ -13,7 +13,7 @@ ghost use Rattle.lis_kept.specs.Image.{image_shape};
 
 use lis_content::Buffer;
 use lis_journal::Journal;
-use lis_kept::{Metadata, data_start};
+use lis_kept::{Metadata, laid_by};
 use lis_ports::{Disk, Failed};
 
 /// Reads the bytes of the file in a slot.
@@ -33,9 +33,8 @@ pub(crate) fn read_file<D: Disk>(
     ensures disk { ReadsDisk (D.meaning disk.old) (D.meaning disk.new) result }
     ensures fits { (kept : ℕ → List ℕ) → Fits journal.now (D.meaning disk.old) kept → Fits journal.now (D.meaning disk.new) kept }
 {
-    let base = data_start(metadata.limits());
     let Some(rec) = metadata.rec(slot) else {
         unreachable!()
     };
-    bytes.read(journal, disk, base, rec.blocks.as_slice(), rec.size)
+    bytes.read(journal, disk, laid_by(metadata.limits(), rec))
 }

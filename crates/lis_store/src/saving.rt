@@ -12,7 +12,7 @@ ghost use Rattle.lis_journal.specs.Journal.{shape_of};
 use crate::change_fault::ChangeFault;
 use crate::memory::Memory;
 use lis_content::is_large;
-use lis_limits::MAX_LARGE_FILE;
+use lis_limits::V3_MAX_FILE;
 use lis_ports::Disk;
 
 /// The most blocks that are held back between two calls.
@@ -20,7 +20,7 @@ pub(crate) const MOST_HELD: u32 = 44;
 
 /// The most blocks that are held back after a change with this content: none if the content is large, since it is placed.
 pub(crate) fn most_held(payload: &[u8]) -> u32
-    requires { length payload.now ≤ MAX_LARGE_FILE }
+    requires { length payload.now ≤ V3_MAX_FILE }
     ensures few { result ≤ MOST_HELD }
     ensures large { 0 < result → is_large (length payload.now) ≡ false }
 {

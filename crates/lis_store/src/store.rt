@@ -28,11 +28,11 @@ mod unlinking;
 use crate::change_fault::ChangeFault;
 use crate::memory::Memory;
 use crate::write::Write;
-use lis_content::{Buffer, Laid, read_block, read_block_by, read_index_block};
+use lis_content::{Buffer, read_block, read_next_block};
 use lis_eval::{Scratch, View, evaluate, found};
 use lis_ext::Ext;
 use lis_journal::Journal;
-use lis_kept::{Metadata, data_start};
+use lis_kept::{Metadata, laid_by};
 use lis_limits::BLOCK_LEN;
 use lis_model::limits::Limits;
 use lis_place::Place;
@@ -219,72 +219,43 @@ impl Store {
         ensures fits { (s : State) → StoreFits self.now (D.meaning disk.old) s → StoreFits self.now (D.meaning disk.new) s }
         ensures sound { IsSound self.now }
     {
-        let base = data_start(self.memory.metadata.limits());
         let Some(rec) = self.memory.metadata.rec(slot) else {
             unreachable!()
         };
-        let laid = Laid {
-            base,
-            blocks: rec.blocks.as_slice(),
-            size: rec.size,
-        };
+        let laid = laid_by(self.memory.metadata.limits(), rec);
         read_block(&self.memory.journal, disk, laid, n, buf)
     }
 
-    /// Reads the index block of a file, if it has one. Callers pass it to `content_by`.
-    pub fn index<D: Disk>(&self, disk: &mut D, slot: u32, index: &mut [u8]) -> Result<(), Failed>
-        requires some { IsSomeAnd (rec_at self.now.metadata.catalog slot) (λ (rec : FileRecord). 0 < rec.size) }
-        requires whole { length index.old ≡ BLOCK_LEN }
-        requires usable { IsUsable self.now (D.meaning disk.old) }
-        ensures held { OnOk result (IsTrue (D.meaning disk.old).is_honest → IsIndex self.now (D.meaning disk.old).bytes slot index.new) }
-        ensures len { length index.new ≡ BLOCK_LEN }
-        ensures disk { ReadsDisk (D.meaning disk.old) (D.meaning disk.new) result }
-        ensures fits { (s : State) → StoreFits self.now (D.meaning disk.old) s → StoreFits self.now (D.meaning disk.new) s }
-        ensures sound { IsSound self.now }
-    {
-        let base = data_start(self.memory.metadata.limits());
-        let Some(rec) = self.memory.metadata.rec(slot) else {
-            unreachable!()
-        };
-        let laid = Laid {
-            base,
-            blocks: rec.blocks.as_slice(),
-            size: rec.size,
-        };
-        read_index_block(&self.memory.journal, disk, laid, index)
-    }
-
-    /// The n-th block of a file's bytes, by the index block that `index` read. After the end of the file the block may hold any bytes.
-    pub fn content_by<D: Disk>(
+    /// The n-th block of a file's bytes, for callers that read one block after the other from the first one on: `index` keeps an index block
+    /// of the file from call to call, if it has any. After the end of the file the block may hold any bytes.
+    pub fn content_next<D: Disk>(
         &self,
         disk: &mut D,
         slot: u32,
-        index: &[u8],
+        index: &mut [u8],
         n: u32,
         buf: &mut [u8],
     ) -> Result<(), Failed>
         requires within { IsSomeAnd (rec_at self.now.metadata.catalog slot) (λ (rec : FileRecord). BLOCK_LEN * n < rec.size) }
-        requires index { length index.now ≡ BLOCK_LEN }
+        requires index { length index.old ≡ BLOCK_LEN }
         requires whole { length buf.old ≡ BLOCK_LEN }
         requires usable { IsUsable self.now (D.meaning disk.old) }
         ensures read { OnOk result ((s : State) (name : List ℕ) → StoreFits self.now (D.meaning disk.old) s → slot_of self.now.metadata.catalog name ≡ Some slot
-            → IsIndex self.now (D.meaning disk.old).bytes slot index.now
+            → IsIndex self.now (D.meaning disk.old).bytes slot n index.old
             → take (length (part (BLOCK_LEN * n) BLOCK_LEN (file_of s.files name).bytes)) buf.new ≡ part (BLOCK_LEN * n) BLOCK_LEN (file_of s.files name).bytes) }
+        ensures next { OnOk result (IsTrue (D.meaning disk.old).is_honest → IsIndex self.now (D.meaning disk.old).bytes slot n index.old
+            → IsIndex self.now (D.meaning disk.old).bytes slot (n + 1) index.new) }
+        ensures index { length index.new ≡ BLOCK_LEN }
         ensures len { length buf.new ≡ BLOCK_LEN }
         ensures disk { ReadsDisk (D.meaning disk.old) (D.meaning disk.new) result }
         ensures fits { (s : State) → StoreFits self.now (D.meaning disk.old) s → StoreFits self.now (D.meaning disk.new) s }
         ensures sound { IsSound self.now }
     {
-        let base = data_start(self.memory.metadata.limits());
         let Some(rec) = self.memory.metadata.rec(slot) else {
             unreachable!()
         };
-        let laid = Laid {
-            base,
-            blocks: rec.blocks.as_slice(),
-            size: rec.size,
-        };
-        read_block_by(&self.memory.journal, disk, laid, index, n, buf)
+        let laid = laid_by(self.memory.metadata.limits(), rec);
+        read_next_block(&self.memory.journal, disk, laid, index, n, buf)
     }
 
     /// The slot of the file of that name, if the file is in the extension of the place.

@@ -1,42 +1,75 @@
 //! Blocks that contents take, and blocks that are freed.
 
-ghost use Rattle.std.specs.Prelude.{◌≡◌, ℕ, ◌+◌, ◌≤◌, true, [], List, Some, length, slice_set, IsSome, IsTrue, OnOk, OnErr, MatchResult};
+ghost use Rattle.std.specs.Prelude.{◌≡◌, ℕ, ◌+◌, ◌≤◌, true, [], List, Some, length, nat_lt, IsSome, IsTrue, OnOk, OnErr, MatchResult};
 ghost use Rattle.lis_ports.specs.Calls.{UsesDisk, ReadsDisk};
 ghost use Rattle.lis_journal.specs.Images.{Fits, JournalIsUsable};
 ghost use Rattle.lis_blockmap.specs.Bitmap.{free_count};
 ghost use Rattle.lis_catalog.specs.Catalog.{rec_at};
 ghost use Rattle.lis_content.specs.Large.{is_large};
 ghost use Rattle.lis_fields.specs.Records.{FileRecord};
-ghost use Rattle.lis_model.specs.Image.{bitmap_start, data_start};
+ghost use Rattle.lis_model.specs.Image.{data_start};
 ghost use Rattle.lis_model.specs.Ranges.{are_stored};
 ghost use Rattle.lis_model.specs.State.{blocks_taken, file_limit};
-ghost use Rattle.lis_kept.specs.Changes.{GivesBack, Puts, PutTorn};
+ghost use Rattle.lis_kept.specs.Changes.{bitmap_homes, GivesBack, Puts, PutTorn};
+ghost use Rattle.std.specs.List.{list_all};
+ghost use Rattle.lis_content.specs.Content.{given, marked};
+ghost use Rattle.lis_content.specs.Placing.{homes_of};
 ghost use Rattle.lis_kept.specs.Sound.{AreSound};
 ghost use Rattle.lis_journal.specs.Journal.{shape_of};
 ghost use Rattle.lis_kept.specs.Image.{image_shape};
 
 use crate::metadata::Metadata;
-use crate::places::{bitmap_start, data_start};
+use crate::places::{bitmap_start, data_start, laid_by};
 use arrayvec::ArrayVec;
 use lis_bits::Flags;
-use lis_content::{PutFault, drop_large, is_large, place_file, put};
+use lis_blockmap::BlockMap;
+use lis_content::{PutFault, give_all, is_large, place_file, put, read_numbers};
 use lis_journal::Journal;
-use lis_limits::SLOT_BLOCKS;
+use lis_limits::{BLOCK_BITS, SLOT_BLOCKS};
 use lis_model::limits::Limits;
 use lis_ports::{Disk, Failed};
 
-// Marks the block of the bitmap.
-fn mark_bitmap(marks: &mut Flags, limits: &Limits)
+// Marks the blocks of the bitmap that have the bits of these data blocks, as far as the image has them.
+fn mark_bits(marks: &mut Flags, limits: &Limits, blocks: &[u32])
     requires range { IsTrue (are_stored limits.now) }
     requires long { data_start limits.now ≤ length marks.old }
-    ensures { marks.new ≡ slice_set marks.old (bitmap_start limits.now) true }
+    ensures { marks.new ≡ marked marks.old (bitmap_homes limits.now blocks.now) }
 {
-    marks.put(bitmap_start(limits), true);
+    let first = bitmap_start(limits);
+    for n in blocks.iter().filter(|n| **n < limits.blocks) {
+        marks.put(first + n / BLOCK_BITS, true);
+    }
+}
+
+// Marks the blocks of the bitmap that have the bits of the data blocks with these homes.
+fn mark_homes(marks: &mut Flags, limits: &Limits, homes: &[u32])
+    requires range { IsTrue (are_stored limits.now) }
+    requires long { data_start limits.now ≤ length marks.old }
+    ensures { (blocks : List ℕ) → homes.now ≡ homes_of (data_start limits.now) blocks
+        → IsTrue (list_all (λ n. nat_lt n limits.now.blocks) blocks)
+        → marks.new ≡ marked marks.old (bitmap_homes limits.now blocks) }
+{
+    let base = data_start(limits);
+    let first = bitmap_start(limits);
+    for home in homes {
+        marks.put(first + (home - base) / BLOCK_BITS, true);
+    }
+}
+
+// Frees these blocks, and marks the blocks of the bitmap that have their bits.
+fn free_all(map: &mut BlockMap, marks: &mut Flags, limits: &Limits, blocks: &[u32])
+    requires range { IsTrue (are_stored limits.now) }
+    requires long { data_start limits.now ≤ length marks.old }
+    ensures given { map.new ≡ given map.old blocks.now }
+    ensures marks { marks.new ≡ marked marks.old (bitmap_homes limits.now blocks.now) }
+{
+    give_all(map, blocks);
+    mark_bits(marks, limits, blocks);
 }
 
 impl Metadata {
     /// Puts bytes into free blocks, which it takes, and returns the numbers for the slot. The bytes are staged; if they are large, they are
-    /// placed, with an index block, and then nothing may be staged. After a disk fault the journal is broken.
+    /// placed, with index blocks, and then nothing may be staged. After a disk fault the journal is broken.
     pub fn put_content<D: Disk>(
         &mut self,
         journal: &mut Journal,
@@ -58,20 +91,26 @@ impl Metadata {
         ensures disk { UsesDisk (D.meaning disk.old) (D.meaning disk.new) result }
     {
         let base = data_start(&self.limits);
-        mark_bitmap(&mut self.marks, &self.limits);
-        let put = if is_large(bytes.len() as u32) {
-            place_file(&mut self.map, journal, disk, base, bytes)
+        let is_placed = is_large(bytes.len() as u32);
+        let put = if is_placed {
+            place_file(&mut self.map, journal, disk, self.limits.version, base, bytes)
         } else {
             put(&mut self.map, journal, disk, base, &[], bytes)
         };
-        match put {
-            Ok(numbers) => Ok(numbers),
-            Err(PutFault::Disk) => Err(Failed),
+        let numbers = match put {
+            Ok(numbers) => numbers,
+            Err(PutFault::Disk) => return Err(Failed),
             Err(PutFault::NoSpace) => unreachable!(),
+        };
+        if is_placed {
+            mark_homes(&mut self.marks, &self.limits, journal.placed());
+        } else {
+            mark_bits(&mut self.marks, &self.limits, numbers.as_slice());
         }
+        Ok(numbers)
     }
 
-    /// Frees the blocks of the file in a slot. The numbers in its index block are read from the disk; if that fails, no block is freed.
+    /// Frees the blocks of the file in a slot. The numbers in its index blocks are read from the disk; if that fails, no block is freed.
     pub fn give_blocks<D: Disk>(
         &mut self,
         journal: &Journal,
@@ -88,19 +127,16 @@ impl Metadata {
         ensures fits { (kept : ℕ → List ℕ) → Fits journal.now (D.meaning disk.old) kept
             → Fits journal.now (D.meaning disk.new) kept }
     {
-        let base = data_start(&self.limits);
         let Some(rec) = self.catalog.rec(slot) else {
             unreachable!()
         };
-        drop_large(
-            &mut self.map,
-            journal,
-            disk,
-            base,
-            rec.blocks.as_slice(),
-            rec.size,
-        )?;
-        mark_bitmap(&mut self.marks, &self.limits);
+        let laid = laid_by(&self.limits, rec);
+        let mut numbers = ArrayVec::new();
+        read_numbers(journal, disk, laid, &mut numbers)?;
+        free_all(&mut self.map, &mut self.marks, &self.limits, numbers.as_slice());
+        if is_large(rec.size) {
+            free_all(&mut self.map, &mut self.marks, &self.limits, laid.blocks);
+        }
         Ok(())
     }
 }
