@@ -2,11 +2,11 @@
 
 ghost use Rattle.std.specs.Prelude.{◌≡◌, ◌+◌, ◌<◌, ◌≤◌, ◌++◌, ℕ, List, [], true, false, length, take, slice_index, IsTrue, IfOk, OnOk};
 ghost use Rattle.lis_ports.specs.Calls.{ReadsDisk};
-ghost use Rattle.lis_model.specs.State.{blocks_needed};
+ghost use Rattle.lis_model.specs.State.{blocks_needed, blocks_taken};
 ghost use Rattle.lis_journal.specs.Images.{Fits, look, held_in, JournalIsUsable};
 ghost use Rattle.lis_journal.specs.Phases.{looked};
 ghost use Rattle.lis_content.specs.Content.{are_within};
-ghost use Rattle.lis_content.specs.Large.{index_bytes, is_large, slot_count, index_count, number_at, numbers_in, numbers_of, content_blocks, file_content, IsIndexed, HasNumber, MayHaveNumber, block_within};
+ghost use Rattle.lis_content.specs.Large.{index_bytes, is_large, slot_count, index_count, number_at, numbers_in, numbers_of, content_blocks, file_blocks, file_content, IsIndexed, HasNumber, MayHaveNumber, block_within};
 ghost use Rattle.lis_journal.specs.Record.{homes_start};
 
 use crate::blocks::{fill, home, read_front};
@@ -14,8 +14,11 @@ use arrayvec::ArrayVec;
 use byteorder::{ByteOrder, LittleEndian};
 use lis_fields::{are_zeros, number_width, read_wide};
 use lis_journal::Journal;
-use lis_limits::{BLOCK_LEN, MAX_FILE_BLOCKS, NUMBERS_PER_INDEX, SLOT_BLOCKS, V3_MAX_FILE};
+use lis_limits::{BLOCK_LEN, NUMBERS_PER_INDEX, SLOT_BLOCKS, V3_MAX_FILE, V3_MAX_PLACED};
 use lis_ports::{Disk, Failed};
+
+/// The most blocks of a file, its index blocks among them.
+pub const MOST_BLOCKS: usize = V3_MAX_PLACED as usize;
 
 /// Where the content of a file is: the version and the first data block of the image, the numbers in the file's slot, and how many bytes it
 /// has.
@@ -282,14 +285,14 @@ fn is_formed(version: u32, block: &[u8], count: usize) -> bool
 
 // Appends the first `count` numbers of an index block to those that are there.
 fn push_numbers(
-    numbers: &mut ArrayVec<u32, MAX_FILE_BLOCKS>,
+    numbers: &mut ArrayVec<u32, MOST_BLOCKS>,
     version: u32,
     block: &[u8],
     count: usize,
 )
     requires whole { length block.now ≡ BLOCK_LEN }
     requires few { count ≤ NUMBERS_PER_INDEX }
-    requires room { length numbers.old.items + count ≤ MAX_FILE_BLOCKS }
+    requires room { length numbers.old.items + count ≤ MOST_BLOCKS }
     ensures { numbers.new.items ≡ numbers.old.items ++ numbers_in version count block.now }
 {
     let mut held = [0; NUMBERS_PER_INDEX as usize];
@@ -303,7 +306,7 @@ fn read_indexes<D: Disk>(
     journal: &Journal,
     disk: &mut D,
     laid: Laid,
-    numbers: &mut ArrayVec<u32, MAX_FILE_BLOCKS>,
+    numbers: &mut ArrayVec<u32, MOST_BLOCKS>,
 ) -> Result<bool, Failed>
     requires few { laid.size ≤ V3_MAX_FILE }
     requires large { is_large laid.size ≡ true }
@@ -334,23 +337,24 @@ fn read_indexes<D: Disk>(
     Ok(formed)
 }
 
-/// Reads the numbers of all blocks of a content, in order, into a list that is empty. The result says whether each index block of the file
-/// is well formed: whether zeros follow its numbers.
-pub fn read_numbers<D: Disk>(
+/// Reads the numbers of all blocks of a file into a list that is empty: those of its content in order, and then those of its index blocks.
+/// The result says whether each index block is well formed: whether zeros follow its numbers.
+pub fn read_blocks<D: Disk>(
     journal: &Journal,
     disk: &mut D,
     laid: Laid,
-    numbers: &mut ArrayVec<u32, MAX_FILE_BLOCKS>,
+    blocks: &mut ArrayVec<u32, MOST_BLOCKS>,
 ) -> Result<bool, Failed>
     requires few { laid.size ≤ V3_MAX_FILE }
     requires count { length laid.blocks.now ≡ slot_count laid.size }
     requires home { homes_start journal.now.layout ≤ laid.base }
     requires within { IsTrue (are_within laid.base journal.now.layout.blocks laid.blocks.now) }
-    requires none { numbers.old.items ≡ [] }
+    requires none { blocks.old.items ≡ [] }
     requires usable { JournalIsUsable journal.now (D.meaning disk.old) }
-    ensures numbers { OnOk result ((kept : ℕ → List ℕ) → Fits journal.now (D.meaning disk.old) kept
-        → numbers.new.items ≡ content_blocks laid.entry.version laid.entry.base laid.entry.blocks.now laid.entry.size (looked journal.now.staged kept)) }
-    ensures count { OnOk result (length numbers.new.items ≡ blocks_needed laid.entry.size) }
+    ensures blocks { OnOk result ((kept : ℕ → List ℕ) → Fits journal.now (D.meaning disk.old) kept
+        → blocks.new.items ≡ file_blocks laid.entry.version laid.entry.base laid.entry.blocks.now laid.entry.size (looked journal.now.staged kept)) }
+    ensures count { OnOk result (length blocks.new.items ≡ blocks_taken 2 laid.entry.size) }
+    ensures small { OnOk result (is_large laid.entry.size ≡ false → blocks.new.items ≡ laid.entry.blocks.now) }
     ensures formed { IfOk result (λ formed. IsTrue formed → (kept : ℕ → List ℕ) → Fits journal.now (D.meaning disk.old) kept
         → IsIndexed laid.entry.version laid.entry.base laid.entry.blocks.now laid.entry.size (looked journal.now.staged kept)) }
     ensures malformed { IfOk result (λ formed. formed ≡ false → (kept : ℕ → List ℕ) → Fits journal.now (D.meaning disk.old) kept
@@ -359,9 +363,10 @@ pub fn read_numbers<D: Disk>(
     ensures fits { (kept : ℕ → List ℕ) → Fits journal.now (D.meaning disk.old) kept
         → Fits journal.now (D.meaning disk.new) kept }
 {
+    let mut are_formed = true;
     if is_large(laid.size) {
-        return read_indexes(journal, disk, laid, numbers);
+        are_formed = read_indexes(journal, disk, laid, blocks)?;
     }
-    numbers.try_extend_from_slice(laid.blocks).unwrap();
-    Ok(true)
+    blocks.try_extend_from_slice(laid.blocks).unwrap();
+    Ok(are_formed)
 }

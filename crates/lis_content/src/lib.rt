@@ -11,5 +11,7 @@ mod placing;
 pub use buffer::Buffer;
 pub use content::{drop_file, give_all, put};
 pub use fault::PutFault;
-pub use large::{Laid, is_large, read_block, read_content, read_next_block, read_numbers};
+pub use large::{
+    Laid, MOST_BLOCKS, is_large, read_block, read_blocks, read_content, read_next_block,
+};
 pub use placing::place_file;

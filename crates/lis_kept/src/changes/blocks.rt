@@ -12,7 +12,7 @@ ghost use Rattle.lis_model.specs.Ranges.{are_stored};
 ghost use Rattle.lis_model.specs.State.{blocks_taken, file_limit};
 ghost use Rattle.lis_kept.specs.Changes.{bitmap_homes, GivesBack, Puts, PutTorn};
 ghost use Rattle.std.specs.List.{list_all};
-ghost use Rattle.lis_content.specs.Content.{given, marked};
+ghost use Rattle.lis_content.specs.Content.{marked};
 ghost use Rattle.lis_content.specs.Placing.{homes_of};
 ghost use Rattle.lis_kept.specs.Sound.{AreSound};
 ghost use Rattle.lis_journal.specs.Journal.{shape_of};
@@ -22,8 +22,7 @@ use crate::metadata::Metadata;
 use crate::places::{bitmap_start, data_start, laid_by};
 use arrayvec::ArrayVec;
 use lis_bits::Flags;
-use lis_blockmap::BlockMap;
-use lis_content::{PutFault, give_all, is_large, place_file, put, read_numbers};
+use lis_content::{PutFault, give_all, is_large, place_file, put, read_blocks};
 use lis_journal::Journal;
 use lis_limits::{BLOCK_BITS, SLOT_BLOCKS};
 use lis_model::limits::Limits;
@@ -54,17 +53,6 @@ fn mark_homes(marks: &mut Flags, limits: &Limits, homes: &[u32])
     for home in homes {
         marks.put(first + (home - base) / BLOCK_BITS, true);
     }
-}
-
-// Frees these blocks, and marks the blocks of the bitmap that have their bits.
-fn free_all(map: &mut BlockMap, marks: &mut Flags, limits: &Limits, blocks: &[u32])
-    requires range { IsTrue (are_stored limits.now) }
-    requires long { data_start limits.now ≤ length marks.old }
-    ensures given { map.new ≡ given map.old blocks.now }
-    ensures marks { marks.new ≡ marked marks.old (bitmap_homes limits.now blocks.now) }
-{
-    give_all(map, blocks);
-    mark_bits(marks, limits, blocks);
 }
 
 impl Metadata {
@@ -131,12 +119,10 @@ impl Metadata {
             unreachable!()
         };
         let laid = laid_by(&self.limits, rec);
-        let mut numbers = ArrayVec::new();
-        read_numbers(journal, disk, laid, &mut numbers)?;
-        free_all(&mut self.map, &mut self.marks, &self.limits, numbers.as_slice());
-        if is_large(rec.size) {
-            free_all(&mut self.map, &mut self.marks, &self.limits, laid.blocks);
-        }
+        let mut blocks = ArrayVec::new();
+        read_blocks(journal, disk, laid, &mut blocks)?;
+        give_all(&mut self.map, blocks.as_slice());
+        mark_bits(&mut self.marks, &self.limits, blocks.as_slice());
         Ok(())
     }
 }
