@@ -265,9 +265,10 @@ fn take_record<D: Disk>(
     if !are_assignable(known.words, rec.tags.as_slice()) {
         return Ok(false);
     }
-    let Some(blocks) = free_blocks(disk, known.journal, known.limits, &slots.map, &rec)? else {
+    let mut blocks = ArrayVec::new();
+    if !free_blocks(disk, known.journal, known.limits, &slots.map, &rec, &mut blocks)? {
         return Ok(false);
-    };
+    }
     let all_blocks = blocks.as_slice();
     read_content(disk, known.journal, known.limits, &rec, all_blocks, bytes)?;
     match describe(
