@@ -6,7 +6,6 @@ use Rattle.lis_limits.specs.declared.TheConstants.{MAX_DESCRIPTION}
 use Rattle.lis_slots.specs.Slots.{slot}
 use Rattle.lis_blockmap.specs.Bitmap.{is_taken}
 use Rattle.lis_content.specs.Content.{marked, are_free}
-
 use Rattle.lis_dict.specs.Dict.{Dict, number_of, word_of}
 use Rattle.lis_catalog.specs.Catalog.{Filed, IsCatalog, rec_at}
 use Rattle.lis_ext.specs.Ext.{Ext, set_of, empty_ext}

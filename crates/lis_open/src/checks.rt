@@ -1,6 +1,6 @@
 //! What else must hold of an image: each word is in use, and the bitmap and the rows are right.
 
-ghost use Rattle.std.specs.Prelude.{◌≡◌, ◌↔◌, ◌/◌, ◌<◌, ◌≤◌, ◌||◌, ◌&&◌, not, is_some, ℕ, Bool, List, length, false, Some, slice_get, IsTrue, IfOk};
+ghost use Rattle.std.specs.Prelude.{◌≡◌, ◌↔◌, ◌+◌, ◌/◌, ◌<◌, ◌≤◌, ◌||◌, ◌&&◌, not, is_some, ℕ, Bool, List, length, false, Some, slice_get, IsTrue, IfOk, IfNone, IfSome};
 ghost use Rattle.std.specs.List.{list_any};
 ghost use Rattle.lis_ports.specs.Calls.{ReadsDisk};
 ghost use Rattle.lis_journal.specs.Images.{Fits};
@@ -30,8 +30,8 @@ use lis_ext::Ext;
 use lis_fields::{AxiomSlot, are_zeros};
 use lis_journal::Journal;
 use lis_kept::{bitmap_start, descriptions_start};
-use lis_limits::{BLOCK_LEN, MAX_FILES};
-use lis_model::limits::Limits;
+use lis_limits::{BLOCK_BITS, BLOCK_LEN, MAX_FILES};
+use lis_model::limits::{Limits, bitmap_blocks};
 use lis_model::spot::Spot;
 use lis_ports::{Disk, Failed};
 
