@@ -95,9 +95,9 @@ zeros-part at n total le = ap (take n) (drop-replicate at total 0) ∙ take-repl
 free_slot : (slots : Slots) (at : ℕ → List ℕ) (k : ℕ) → at (home slots k) ≡ zeros 4096 → place slots k + slots.width ≤ 4096 → slot slots at k ≡ zeros slots.width
 free_slot slots at k blank within = ap (part (place slots k) slots.width) blank ∙ zeros-part (place slots k) slots.width 4096 within
 
-bitmap-none : (n : ℕ) → bitmap_bytes (replicate n false) ≡ zeros 4096
+bitmap-none : (n blocks : ℕ) → bitmap_bytes n (replicate blocks false) ≡ zeros 4096
 unfolding bitmap_bytes zeros
-bitmap-none n = sym (bytes_none 4096 (is_taken (replicate n false)) (none_set n))
+bitmap-none n blocks = sym (bytes_none 4096 (λ k. is_taken (replicate blocks false) (32768 * n + k)) (λ k. none_set blocks (32768 * n + k)))
 
 -- a row ends inside its block
 row_within : (limits : Limits) (k : ℕ) → IsTrue (are_stored limits) → place (row_slots limits) k + (row_slots limits).width ≤ 4096
@@ -127,7 +127,7 @@ module _ (limits : Limits) (blocks : ℕ) (image : List ℕ) (range : IsTrue (ar
   written_empty Rows n lt =
       free_slot (slots_of limits Rows) at n (zero_at Rows n lt) (row_within limits n range)
       ∙ row_bytes_none (empty_metadata limits blocks).ext n (limits.files / 8) (omega (arith, length-replicate {A = List ℕ} limits.files [], whole_files limits range)) (λ file. no_set limits blocks n file)
-  written_empty Bitmap n lt = blank.homes (bitmap_start limits) (omega arith) (omega arith) ∙ sym (bitmap-none limits.blocks)
+  written_empty Bitmap n lt = blank.homes (bitmap_start limits + n) (omega arith) (omega (arith, lt)) ∙ sym (bitmap-none n limits.blocks)
 
   pub tells_empty : SpellsSuper limits (part 0 4096 image) → Tells (empty_metadata limits blocks) at (empty_state limits)
   tells_empty super = record {
