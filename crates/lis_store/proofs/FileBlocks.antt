@@ -1,5 +1,5 @@
 -- The blocks of a file: how many there are, and which of them have its content.
-use Rattle.lis_store.proofs.Common.{sym, common_steps, ◌≡◌, ◌∙◌, ℕ, List, length, cond-false, Among, among_left, content_blocks, Filed, FileRecord, Limits, data_start, blocks_taken, Metadata, AreSound, blocks_told}
+use Rattle.lis_store.proofs.Common.{sym, arith, common_steps, ◌≡◌, ◌∙◌, ℕ, List, length, cond-false, Among, among_left, content_blocks, Filed, FileRecord, Limits, data_start, blocks_taken, Metadata, AreSound, blocks_told}
 use Rattle.lis_content.proofs.Files.{length-file_blocks}
 use Rattle.lis_content.proofs.Indexes.{length-content_blocks, large_numbers, large_blocks, small_numbers, small_blocks}
 use Rattle.lis_model.specs.State.{blocks_needed}

@@ -47,6 +47,10 @@ module _ {X : Type 0} (w : ℕ) (at : X → List ℕ) where
       (front_of left (at (get_or xs n d)) (flat_map at (drop (suc n) xs)) (whole (get_or xs n d) (among_at xs n d lt)))
 
 -- ---- the n-th block of a file
+-- before the first block a caller has no index block
+pub index_first : (k : Stored) (bytes : List ℕ) (slot : ℕ) (index : List ℕ) → IsIndex k bytes slot 0 index
+index_first k bytes slot index rec is first large = absurd (first refl)
+
 -- a slot has this record, with these numbers of blocks and this size, and its file has bytes in an n-th block
 pub record HasBlock (k : Stored) (slot n : ℕ) (rec : FileRecord) (ns : List ℕ) (size : ℕ) : Type 0 where
   pub sound : IsSound k
@@ -154,5 +158,5 @@ module _ {k : Stored} {slot n : ℕ} {rec : FileRecord} {ns : List ℕ} {size : 
       let is_kept : held version base ns size k.journal.staged ≡ fits.kept (ds + number) =
       is_read ∙ cond-true (nat_lt (ds + number) k.journal.layout.blocks) (fits.kept (ds + number)) (replicate 4096 0) (lt-ltb (ds + number) k.journal.layout.blocks (number_within m s fits)) in
       let is_block : buf ≡ fits.kept (ds + number) =
-      read fits.kept fits.journal ∙ (ap (take len) is_kept ∙ take_all (fits.kept (ds + number)) len (omega (arith, whole, number_whole m s fits))) in
+      read fits.kept fits.journal ∙ (ap (take len) is_kept ∙ take_all len (fits.kept (ds + number)) (omega (arith, whole, number_whole m s fits))) in
       ap (take (length (part (4096 * n) 4096 (file_of s.files name).bytes))) is_block ∙ block_told m s fits name is_slot

@@ -1,7 +1,7 @@
 -- Bytes that are put into blocks instead of others, and what the disk keeps meanwhile.
 use Rattle.std.proofs.Common.{rules}
 use Rattle.std.proofs.Common.{OnErr}
-use Rattle.lis_store.proofs.Common.{◌≡◌, refl, sym, ap, ◌∙◌, subst, ℕ, ◌+◌, ◌<◌, ◌≤◌, ◌||◌, nat_lt, true, false, Bool, List, [], length, filter, Some, None, Result, Ok, Err, IsTrue, arith, lt-ltb, both_ways, false_from_ne_true, ArrayVec, Meaning, Leaves, Held, block, looked, Fits, KeepsPast, are_free, has_home, is_large, Asks, homes_of, stays_marked, among_homes, FileRecord, data_start, Metadata, is_marked, marked_count, has_number, among_from_number, number_from_among, map_among, filter_among, AreSound, blocks_told, Puts, leaves_weaken, leaves_then, is_among, given, marked, GivesBack}
+use Rattle.lis_store.proofs.Common.{◌≡◌, refl, sym, ap, ◌∙◌, subst, ℕ, ◌+◌, ◌<◌, ◌≤◌, ◌||◌, nat_lt, true, false, Bool, List, [], length, filter, count_by, Some, None, Result, Ok, Err, IsTrue, arith, lt-ltb, both_ways, false_from_ne_true, ArrayVec, Meaning, Leaves, Held, block, looked, Fits, KeepsPast, are_free, has_home, is_large, Asks, homes_of, stays_marked, among_homes, FileRecord, data_start, Metadata, is_marked, marked_count, has_number, among_from_number, number_from_among, map_among, filter_among, AreSound, blocks_told, Puts, leaves_weaken, leaves_then, is_among, given, marked, GivesBack}
 use Rattle.lis_journal.specs.Images.{StandsBut}
 use Rattle.lis_journal.proofs.Fitting.{fits_but}
 use Rattle.lis_journal.proofs.Phases.{stands_less}
@@ -15,7 +15,7 @@ use Rattle.lis_journal.specs.declared.layout.Layout.{Layout}
 use Rattle.lis_kept.proofs.Image.{same_layout}
 use Rattle.lis_model.specs.Image.{bitmap_blocks}
 use Rattle.lis_store.proofs.Housed.{free_number}
-use Rattle.lis_store.proofs.Marks.{taken_after}
+use Rattle.lis_store.proofs.Marks.{taken_after, few_homes}
 
 -- ---- images
 -- what is kept in placed blocks does not count
@@ -53,7 +53,11 @@ module _ (p mid q : Metadata) (sound : AreSound p) (bs cs : List ℕ) (ts us : L
 
   -- no more than the bitmap is marked
   twice_few : marked_count q ≤ marked_count p + bitmap_blocks p.limits
-  twice_few = ?
+  twice_few =
+      let C : List Bool → ℕ = λ marks. count_by (λ (b : Bool). b) marks in
+      let are : q.marks ≡ marked (marked p.marks (bitmap_homes p.limits bs)) (bitmap_homes p.limits cs) =
+      ap (λ (x : Metadata). x.marks) two.metadata ∙ ap (λ (x : Metadata). marked x.marks (bitmap_homes x.limits cs)) one.metadata in
+      omega (arith, ap C are, few_homes p.limits p.marks bs cs)
 
   pub twice_marks : Marks (bitmap_blocks p.limits) p q
   twice_marks = record { saved = λ at saved. two.marks.saved at (one.marks.saved at saved); few = twice_few }
