@@ -1,6 +1,6 @@
 -- A blank image has no words and no files: it represents the empty state.
 use Rattle.std.proofs.Common.{rules}
-use Rattle.lis_store.proofs.Common.{◌≡◌, refl, sym, ap, ◌∙◌, ℕ, zero, suc, ◌+◌, ◌-◌, ◌/◌, ◌<◌, ◌≤◌, ◌≢◌, false, List, [], get_or, take, replicate, slice_get, slice_index, Some, IsTrue, arith, ◌==◌, insert_key, Contains, length-replicate, get_or-replicate, slice_get_within, get_or_from_slice_get, among_from_contains, part, block, is_taken, Dict, IsDict, has, SpellsSuper, AxiomSlot, FreeAxiom, Pair, Limits, are_stored, bitmap_start, data_start, State, pair_cmp, Metadata, IsWritten, axiom_slots, Properties, Axioms, Bitmap, AreSound, Tells, among_slots, list_any, Meaning, both_ways, Files, Rows, true, KeepsInUse, is_linked}
+use Rattle.lis_store.proofs.Common.{◌≡◌, refl, sym, ap, ◌∙◌, ℕ, zero, suc, ◌+◌, ◌-◌, ◌*◌, ◌/◌, ◌<◌, ◌≤◌, ◌≢◌, false, List, [], get_or, take, replicate, slice_get, slice_index, Some, IsTrue, arith, ◌==◌, insert_key, Contains, length-replicate, get_or-replicate, slice_get_within, get_or_from_slice_get, among_from_contains, part, block, is_taken, Dict, IsDict, has, SpellsSuper, AxiomSlot, FreeAxiom, Pair, Limits, are_stored, bitmap_start, data_start, State, pair_cmp, Metadata, IsWritten, axiom_slots, Properties, Axioms, Bitmap, AreSound, Tells, among_slots, list_any, Meaning, both_ways, Files, Rows, true, KeepsInUse, is_linked}
 use Rattle.std.specs.List.{fold}
 use Rattle.std.proofs.lemmas.List.{drop-replicate, take-replicate, take-take}
 use Rattle.lis_slots.specs.Slots.{Slots, home, place, slot}
@@ -15,7 +15,7 @@ use Rattle.lis_laws.proofs.Steps.{empty_formed}
 use Rattle.lis_kept.specs.Areas.{Area, slots_of, row_slots}
 use Rattle.lis_kept.specs.Telling.{pairs_told}
 use Rattle.lis_model.proofs.Stored.{stored_range, each_files_limit}
-use Rattle.lis_kept.proofs.InArea.{whole_files, files_range}
+use Rattle.lis_kept.proofs.InArea.{some_properties, whole_files, files_range}
 use Rattle.lis_kept.proofs.Spelled.{row_bytes_none}
 use Rattle.lis_store.specs.Blank.{IsBlank}
 use Rattle.lis_store.specs.Stands.{Stands}
@@ -154,7 +154,7 @@ pub empty_fits : (m : Meaning) (limits : Limits) (blocks : ℕ) (image : List �
 empty_fits m limits blocks image range room honest settled super blank =
     record {
       kept = λ n. block n image;
-      journal = settled_fits (empty_stored limits blocks).journal image refl honest settled (omega arith) blank.long (ap (list_any (λ gate. gate == 1)) blank.gates);
+      journal = settled_fits (empty_stored limits blocks).journal image refl honest settled (omega (arith, some_properties limits range)) blank.long (ap (list_any (λ gate. gate == 1)) blank.gates);
       unbroken = refl;
       settled = refl;
       tells = tells_empty limits blocks image range blank super;

@@ -1,11 +1,8 @@
 -- Rows of truth values that represent a list of numbers, and lists of numbers without repeats.
-use Rattle.lis_store.proofs.Common.{rules, ◌≡◌, ◌⊎◌, refl, sym, ap, ◌∙◌, subst, inl, inr, ℕ, zero, suc, ◌+◌, ◌<◌, ◌≤◌, ◌||◌, nat_lt, cond, count_by, filter, ltb-true, among_filter, Limits, bitmap_start, not, Bool, true, false, List, [], ◌∷◌, ◌++◌, length, map, set, replicate, arith, length-set, get_or-set_same, get_or-set_other, flat_map, and_parts, ne_eqb, not-true, not_from_false, length-replicate, get_or-replicate, Among, among_append, among_flat_map, among_map, is_taken, and_from, both_ways, eq-eqb, false_from_ne_true, map_among, marked, has_number, are_distinct, among_from_number, number_from_among, or-false, get_or_default}
+use Rattle.lis_store.proofs.Common.{rules, ◌≡◌, ◌⊎◌, refl, sym, ap, ◌∙◌, subst, inl, inr, ℕ, ◌<◌, ◌||◌, not, Bool, true, false, List, [], ◌∷◌, ◌++◌, length, map, set, replicate, arith, length-set, get_or-set_same, get_or-set_other, flat_map, and_parts, ne_eqb, not-true, not_from_false, length-replicate, get_or-replicate, Among, among_append, among_flat_map, is_taken, and_from, both_ways, eq-eqb, false_from_ne_true, map_among, marked, has_number, are_distinct, among_from_number, number_from_among, or-false, get_or_default}
 use Rattle.std.proofs.lemmas.List.{same_lists}
 use Rattle.lis_content.proofs.Numbers.{length-marked}
 use Rattle.std.proofs.Math.Bool.{or-true}
-use Rattle.lis_model.specs.Image.{bitmap_blocks}
-use Rattle.lis_kept.specs.Areas.{bitmap_home}
-use Rattle.lis_kept.specs.Changes.{bitmap_homes}
 
 -- ---- what is taken
 pub taken_after : (taken : List Bool) (ns : List ℕ) (n : ℕ) → n < length taken → is_taken (marked taken ns) n ≡ (has_number ns n || is_taken taken n)
@@ -29,60 +26,6 @@ marks_are taken ns blocks len each =
     after n within =
         taken_after (replicate blocks false) ns n (omega (arith, within, length-replicate blocks false))
         ∙ (ap (λ t. has_number ns n || t) (get_or-replicate blocks n false false within) ∙ or-false (has_number ns n))
-
--- ---- marks in the bitmap
--- what is not among these numbers stays as it is
-not_marked : (marks : List Bool) (ns : List ℕ) (n : ℕ) → (Among ns n → ⊥) → is_taken (marked marks ns) n ≡ is_taken marks n
-not_marked marks [] n none = refl
-not_marked marks (b ∷ ns) n none = not_marked (set marks b true) ns n (λ m. none (inr m)) ∙ get_or-set_other marks b n true false (λ same. none (inl (sym same)))
-
--- rows that are the same except in `width` places differ by at most so many
-few_apart : (first width : ℕ) (xs ys : List Bool) → length ys ≡ length xs → ((n : ℕ) → (n < first) ⊎ (first + width ≤ n) → is_taken ys n ≡ is_taken xs n) → count_by (λ (b : Bool). b) ys ≤ count_by (λ (b : Bool). b) xs + width
-few_apart first width [] [] len same = omega arith
-few_apart first width [] (y ∷ ys) len same = absurd (omega (arith, len))
-few_apart first width (x ∷ xs) [] len same = absurd (omega (arith, len))
-few_apart (suc first) width (x ∷ xs) (y ∷ ys) len same =
-    let rest = few_apart first width xs ys (omega (arith, len)) (λ n out. same (suc n) (by n out)) in
-    omega (arith, rest, ap (λ b. cond b 1 0) (same 0 (inl (omega arith))))
-  where
-    by : (n : ℕ) → (n < first) ⊎ (first + width ≤ n) → (suc n < suc first) ⊎ (suc first + width ≤ suc n)
-    by n (inl before) = inl (omega (arith, before))
-    by n (inr behind) = inr (omega (arith, behind))
-few_apart zero zero (x ∷ xs) (y ∷ ys) len same =
-    let rest = few_apart zero zero xs ys (omega (arith, len)) (λ n out. same (suc n) (inr (omega arith))) in
-    omega (arith, rest, ap (λ b. cond b 1 0) (same 0 (inr (omega arith))))
-few_apart zero (suc width) (x ∷ xs) (y ∷ ys) len same =
-    let rest = few_apart zero width xs ys (omega (arith, len)) (λ n out. same (suc n) (by n out)) in
-    few y x rest
-  where
-    by : (n : ℕ) → (n < 0) ⊎ (0 + width ≤ n) → (suc n < 0) ⊎ (0 + suc width ≤ suc n)
-    by n (inl none) = absurd (omega (arith, none))
-    by n (inr behind) = inr (omega (arith, behind))
-
-    few : (b a : Bool) → count_by (λ (b : Bool). b) ys ≤ count_by (λ (b : Bool). b) xs + width → count_by (λ (b : Bool). b) (b ∷ ys) ≤ count_by (λ (b : Bool). b) (a ∷ xs) + suc width
-    few true true le = omega (arith, le)
-    few true false le = omega (arith, le)
-    few false true le = omega (arith, le)
-    few false false le = omega (arith, le)
-
--- the blocks with the bits of data blocks are those of the bitmap
-home_within : (limits : Limits) (blocks : List ℕ) (n : ℕ) → Among (bitmap_homes limits blocks) n → (bitmap_start limits ≤ n) × (n < bitmap_start limits + bitmap_blocks limits)
-home_within limits blocks n among =
-    let of = among_map (bitmap_home limits) (filter (λ b. nat_lt b limits.blocks) blocks) n among in
-    let lt = ltb-true of.0 limits.blocks (among_filter (λ b. nat_lt b limits.blocks) blocks of.0 of.1).1 in
-    (omega (arith, of.2), omega (arith, of.2, lt))
-
-pub few_homes : (limits : Limits) (marks : List Bool) (blocks more : List ℕ)
-    → count_by (λ (b : Bool). b) (marked (marked marks (bitmap_homes limits blocks)) (bitmap_homes limits more)) ≤ count_by (λ (b : Bool). b) marks + bitmap_blocks limits
-few_homes limits marks blocks more =
-    let some = bitmap_homes limits blocks in
-    let others = bitmap_homes limits more in
-    few_apart (bitmap_start limits) (bitmap_blocks limits) marks (marked (marked marks some) others) (length-marked (marked marks some) others ∙ length-marked marks some)
-    (λ n out. not_marked (marked marks some) others n (apart more n out) ∙ not_marked marks some n (apart blocks n out))
-  where
-    apart : (bs : List ℕ) (n : ℕ) → (n < bitmap_start limits) ⊎ (bitmap_start limits + bitmap_blocks limits ≤ n) → Among (bitmap_homes limits bs) n → ⊥
-    apart bs n (inl before) among = let within = home_within limits bs n among in absurd (omega (arith, before, within.0))
-    apart bs n (inr behind) among = let within = home_within limits bs n among in absurd (omega (arith, behind, within.1))
 
 -- ---- lists in pieces
 distinct_append : (ms ns : List ℕ) → are_distinct ms ≡ true → are_distinct ns ≡ true → ((n : ℕ) → Among ms n → Among ns n → ⊥) → are_distinct (ms ++ ns) ≡ true

@@ -1,7 +1,7 @@
 -- Bytes that are put into blocks instead of others, and what the disk keeps meanwhile.
 use Rattle.std.proofs.Common.{rules}
 use Rattle.std.proofs.Common.{OnErr}
-use Rattle.lis_store.proofs.Common.{◌≡◌, refl, sym, ap, ◌∙◌, subst, ℕ, ◌+◌, ◌<◌, ◌≤◌, ◌||◌, nat_lt, true, false, Bool, List, [], length, filter, count_by, Some, None, Result, Ok, Err, IsTrue, arith, lt-ltb, both_ways, false_from_ne_true, ArrayVec, Meaning, Leaves, Held, block, looked, Fits, KeepsPast, are_free, has_home, is_large, Asks, homes_of, stays_marked, among_homes, FileRecord, data_start, Metadata, is_marked, marked_count, has_number, among_from_number, number_from_among, map_among, filter_among, AreSound, blocks_told, Puts, leaves_weaken, leaves_then, is_among, given, marked, GivesBack}
+use Rattle.lis_store.proofs.Common.{◌≡◌, refl, sym, ap, ◌∙◌, subst, ℕ, ◌+◌, ◌<◌, ◌≤◌, ◌||◌, ◌++◌, true, false, Bool, List, [], length, count_by, Some, None, Result, Ok, Err, IsTrue, arith, both_ways, false_from_ne_true, ArrayVec, Meaning, Leaves, Held, block, looked, Fits, KeepsPast, are_free, has_home, is_large, Asks, homes_of, stays_marked, among_homes, FileRecord, data_start, Metadata, is_marked, marked_count, has_number, among_from_number, number_from_among, AreSound, blocks_told, Puts, leaves_weaken, leaves_then, is_among, given, marked, GivesBack}
 use Rattle.lis_journal.specs.Images.{StandsBut}
 use Rattle.lis_journal.proofs.Fitting.{fits_but}
 use Rattle.lis_journal.proofs.Phases.{stands_less}
@@ -15,7 +15,8 @@ use Rattle.lis_journal.specs.declared.layout.Layout.{Layout}
 use Rattle.lis_kept.proofs.Image.{same_layout}
 use Rattle.lis_model.specs.Image.{bitmap_blocks}
 use Rattle.lis_store.proofs.Housed.{free_number}
-use Rattle.lis_store.proofs.Marks.{taken_after, few_homes}
+use Rattle.lis_store.proofs.Marks.{taken_after}
+use Rattle.lis_kept.proofs.BitmapMarks.{home_among, marked_both, few_in_bitmap}
 
 -- ---- images
 -- what is kept in placed blocks does not count
@@ -41,8 +42,7 @@ marked_bitmap p q sound bs ts takes free n has =
     let below : n < p.limits.blocks = omega (arith, (free_number p.taken bs n free has).0, sound.blocks) in
     let homes = bitmap_homes p.limits bs in
     let home = bitmap_home p.limits n in
-    let among = map_among (bitmap_home p.limits) (filter (λ b. nat_lt b p.limits.blocks) bs) n
-    (filter_among (λ b. nat_lt b p.limits.blocks) bs n (among_from_number bs n has) (lt-ltb n p.limits.blocks below)) in
+    let among = home_among p.limits bs n (among_from_number bs n has) below in
     ap (λ (x : Metadata). is_marked x home) takes.metadata
     ∙ (taken_after p.marks homes home (omega (arith, sound.marks, below))
     ∙ ap (λ b. b || is_marked p home) (number_from_among homes home among))
@@ -55,9 +55,10 @@ module _ (p mid q : Metadata) (sound : AreSound p) (bs cs : List ℕ) (ts us : L
   twice_few : marked_count q ≤ marked_count p + bitmap_blocks p.limits
   twice_few =
       let C : List Bool → ℕ = λ marks. count_by (λ (b : Bool). b) marks in
-      let are : q.marks ≡ marked (marked p.marks (bitmap_homes p.limits bs)) (bitmap_homes p.limits cs) =
-      ap (λ (x : Metadata). x.marks) two.metadata ∙ ap (λ (x : Metadata). marked x.marks (bitmap_homes x.limits cs)) one.metadata in
-      omega (arith, ap C are, few_homes p.limits p.marks bs cs)
+      let are : q.marks ≡ marked p.marks (bitmap_homes p.limits (bs ++ cs)) =
+      ap (λ (x : Metadata). x.marks) two.metadata
+      ∙ (ap (λ (x : Metadata). marked x.marks (bitmap_homes x.limits cs)) one.metadata ∙ marked_both p.limits p.marks bs cs) in
+      omega (arith, ap C are, few_in_bitmap p.limits p.marks (bs ++ cs))
 
   pub twice_marks : Marks (bitmap_blocks p.limits) p q
   twice_marks = record { saved = λ at saved. two.marks.saved at (one.marks.saved at saved); few = twice_few }

@@ -69,8 +69,8 @@ none_placed p j mid zero are within stages some few = by j.placed refl
     by [] none = stages.placed ∙ none
     by (n ∷ ns) is =
         let there : is_among j.placed n ≡ true = ap (λ ms. is_among ms n) is ∙ ap (λ b. b || is_among ns n) (eq-eqb n n refl) in
-        let data = are n there in
-        let any : 0 < length mid.staged = stages.some (bitmap_home p.limits (n - data_start p.limits)) (omega arith) (omega (arith, within refl n there, data.0)) data.1 in
+        let home = are n there in
+        let any : 0 < length mid.staged = stages.some (bitmap_home p.limits (n - data_start p.limits)) (omega arith) (omega (arith, within refl n there, home.0)) home.1 in
         absurd (omega (arith, any, few))
 none_placed p j mid (suc most) are within stages some few = stages.placed ∙ some (omega arith)
 
