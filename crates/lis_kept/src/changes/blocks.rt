@@ -126,7 +126,14 @@ impl Metadata {
         let base = data_start(&self.limits);
         let is_placed = is_large(bytes.len() as u32);
         let put = if is_placed {
-            place_file(&mut self.map, journal, disk, self.limits.version, base, bytes)
+            place_file(
+                &mut self.map,
+                journal,
+                disk,
+                self.limits.version,
+                base,
+                bytes,
+            )
         } else {
             put(&mut self.map, journal, disk, base, &[], bytes)
         };
@@ -174,12 +181,7 @@ impl Metadata {
                 laid,
             );
         }
-        free_all(
-            &mut self.map,
-            &mut self.marks,
-            &self.limits,
-            laid.blocks,
-        );
+        free_all(&mut self.map, &mut self.marks, &self.limits, laid.blocks);
         Ok(())
     }
 }
