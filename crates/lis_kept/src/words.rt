@@ -42,7 +42,10 @@ fn mark_property(marks: &mut Flags, limits: &Limits, number: u32)
     requires long { data_start limits.now ≤ length marks.old }
     ensures { marks.new ≡ slice_set marks.old (block_of limits.now Properties number) true }
 {
-    marks.put(properties_start(limits) + number / PROPERTIES_PER_BLOCK, true);
+    marks.put(
+        properties_start(limits) + number / PROPERTIES_PER_BLOCK,
+        true,
+    );
 }
 
 // The number of the head of a valued word.

@@ -245,12 +245,7 @@ impl Metadata {
                 laid,
             );
         }
-        free_all(
-            &mut self.map,
-            &mut self.marks,
-            &self.limits,
-            laid.blocks,
-        );
+        free_all(&mut self.map, &mut self.marks, &self.limits, laid.blocks);
         Ok(())
     }
 }
