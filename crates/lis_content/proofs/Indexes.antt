@@ -72,6 +72,10 @@ pub numbers_of_from : (version base : ℕ) (slot : List ℕ) (count : ℕ) (at :
 unfolding numbers_of
 numbers_of_from version base slot count at ns len each = fill_by_all (number_of version base slot at) ns count 0 len each
 
+pub no_numbers : (version base : ℕ) (slot : List ℕ) (at : ℕ → List ℕ) → numbers_of version base slot 0 at ≡ []
+unfolding numbers_of
+no_numbers version base slot at = refl
+
 -- those of the first blocks, and then those of the next one
 pub numbers_of_more : (version base : ℕ) (slot : List ℕ) (j c : ℕ) (at : ℕ → List ℕ) → c ≤ 1024
     → numbers_of version base slot (1024 * j + c) at ≡ numbers_of version base slot (1024 * j) at ++ numbers_in version c (at (index_home base slot j))
@@ -145,6 +149,14 @@ large_slot size is = cond-true (is_large size) ((blocks_needed size + 1023) / 10
 
 pub small_slot : (size : ℕ) → is_large size ≡ false → slot_count size ≡ blocks_needed size
 small_slot size is = cond-false (is_large size) ((blocks_needed size + 1023) / 1024) (blocks_needed size) is
+
+-- the content has as many blocks as its size takes
+pub length-content_blocks : (version base : ℕ) (slot : List ℕ) (size : ℕ) (at : ℕ → List ℕ) → length slot ≡ slot_count size → length (content_blocks version base slot size at) ≡ blocks_needed size
+length-content_blocks version base slot size at count = by (is_large size) refl
+  where
+    by : (t : Bool) → is_large size ≡ t → length (content_blocks version base slot size at) ≡ blocks_needed size
+    by true large = ap length (large_numbers version base slot size at large) ∙ length-numbers_of version base slot (blocks_needed size) at
+    by false small = ap length (small_numbers version base slot size at small) ∙ (count ∙ small_slot size small)
 
 -- ---- an index block spells the numbers that are read from it, if zeros follow them
 -- 1,024 numbers have room

@@ -1,6 +1,7 @@
 pub mod Numbers
 pub mod Indexes
 pub mod Files
+mod IndexesRead
 mod Taking
 mod Rows
 pub mod Laying
