@@ -1,4 +1,4 @@
--- The bytes of the bitmap's block.
+-- The bytes of a block of the bitmap.
 use Rattle.std.proofs.Common.{◌≡◌, ℕ, zero, suc, ◌+◌, ◌*◌, ◌^◌, ◌<◌, ◌≤◌, Bool, true, false, not, if◌then◌else◌, List, length, refl, sym, ap, ap₂, ◌∙◌, arith, add-one}
 use Rattle.std.proofs.lemmas.List.{get_or_past}
 use Rattle.std.proofs.Math.Nat.{pow-suc, pow-le-pow_right}
@@ -36,6 +36,11 @@ byte_fits bits i byte bit lt same small =
 -- a byte past the last block
 pub byte_past : (taken : List Bool) (k : ℕ) → length taken ≤ 8 * k → bits_number 8 (λ i. is_taken taken (8 * k + i)) ≡ 0
 byte_past taken k past = number_none 8 (λ i. is_taken taken (8 * k + i)) (λ i. get_or_past taken (8 * k + i) false (omega arith))
+
+-- a byte of block n of the bitmap, by its place among the bytes of all blocks
+pub byte_in_block : (taken : List Bool) (n k : ℕ) → bits_number 8 (λ i. is_taken taken (8 * (4096 * n + k) + i)) ≡ bits_number 8 (λ i. is_taken taken (32768 * n + (8 * k + i)))
+byte_in_block taken n k = number_same 8 (λ i. is_taken taken (8 * (4096 * n + k) + i)) (λ i. is_taken taken (32768 * n + (8 * k + i)))
+    (λ i lt. let place : 8 * (4096 * n + k) + i ≡ 32768 * n + (8 * k + i) = omega arith in ap (is_taken taken) place)
 
 one_turned : (b c : Bool) (y z p : ℕ) → c ≡ not b → y + z + 1 ≡ p → ((if c then 1 else 0) + 2 * y) + ((if b then 1 else 0) + 2 * z) + 1 ≡ p * 2
 one_turned true false y z p is rest = omega arith

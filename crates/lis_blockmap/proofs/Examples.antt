@@ -9,14 +9,19 @@ three_of_nine = true ∷ false ∷ true ∷ false ∷ false ∷ false ∷ false 
 six_free : free_count three_of_nine ≡ 6
 six_free = refl
 
-first_byte : get_or (bitmap_bytes three_of_nine) 0 0 ≡ 5
+first_byte : get_or (bitmap_bytes 0 three_of_nine) 0 0 ≡ 5
 unfolding bitmap_bytes bits_bytes bits_number
 first_byte = refl
 
-second_byte : get_or (bitmap_bytes three_of_nine) 1 0 ≡ 1
+second_byte : get_or (bitmap_bytes 0 three_of_nine) 1 0 ≡ 1
 unfolding bitmap_bytes bits_bytes bits_number
 second_byte = refl
 
-third_byte : get_or (bitmap_bytes three_of_nine) 2 0 ≡ 0
+third_byte : get_or (bitmap_bytes 0 three_of_nine) 2 0 ≡ 0
 unfolding bitmap_bytes bits_bytes bits_number
 third_byte = refl
+
+-- a second block of the bitmap would have the bits of the blocks from 32,768 on
+none_in_second : get_or (bitmap_bytes 1 three_of_nine) 0 0 ≡ 0
+unfolding bitmap_bytes bits_bytes bits_number
+none_in_second = refl

@@ -1,5 +1,5 @@
 -- The taken blocks and their count, from the row of the free ones.
-use Rattle.std.proofs.Common.{◌≡◌, ◌⊎◌, ℕ, ◌+◌, ◌-◌, ◌<◌, ◌≤◌, ◌==◌, Bool, true, false, not, nat_lt, if◌then◌else◌, cond, List, length, get_or, set, replicate, refl, sym, ap, ◌∙◌, inl, inr, arith, eq-eqb, length-set, get_or-set_same, get_or-set_other}
+use Rattle.std.proofs.Common.{◌≡◌, ◌⊎◌, ℕ, ◌+◌, ◌-◌, ◌<◌, ◌≤◌, ◌==◌, Bool, true, false, not, nat_lt, if◌then◌else◌, cond, List, length, get_or, set, replicate, ◌↔◌, Option, Some, None, IsNone, IfSome, IfNone, refl, sym, ap, ◌∙◌, inl, inr, arith, eq-eqb, length-set, get_or-set_same, get_or-set_other}
 use Rattle.std.proofs.lemmas.Bool.{cases_eq, cases_lt, ne_eqb, lt-ltb}
 use Rattle.std.proofs.lemmas.Bool.Decides.{nat_tests}
 use Rattle.std.proofs.lemmas.List.{get_or-replicate, length-replicate, get_or_past, get_or_default, same_lists}
@@ -50,6 +50,10 @@ module _ (rows : Rows) (blocks : ℕ) where
 
   pub few_free : free_count (taken_of rows blocks) ≤ blocks
   few_free = omega (arith, count_by-le-length not (taken_of rows blocks), length-taken_of)
+
+-- how many data blocks there are, by the value of a map
+pub long : (rows : Rows) (blocks : ℕ) (taken : List Bool) → taken_of rows blocks ≡ taken → length taken ≡ blocks
+long rows blocks taken is = ap length (sym is) ∙ length-taken_of rows blocks
 
 -- one bit is put
 abbrev pub after_put : Rows → ℕ → Bool → Rows
@@ -128,7 +132,7 @@ module _ (rows : Rows) (blocks : ℕ) (h : HasFree rows blocks blocks) where
           let lt : k < blocks = omega (arith, length-taken_of rows blocks) in
           get_or_default (taken_of rows blocks) k d false in_list ∙ (get-taken_of rows blocks k lt ∙ (ap not (h.bits k (omega (arith, h.wide)) ∙ lt-ltb k blocks lt) ∙ sym (get_or-replicate blocks k false d lt)))
 
-  pub sound_at_first : blocks ≤ 32768 → IsSoundMap rows blocks blocks
+  pub sound_at_first : blocks ≤ 16777216 → IsSoundMap rows blocks blocks
   sound_at_first few = record {
     tall = h.tall;
     wide = h.wide;
@@ -153,3 +157,31 @@ module _ (rows : Rows) (blocks free : ℕ) (sound : IsSoundMap rows blocks free)
 
   pub found_free : (n : ℕ) → get rows 0 n ≡ true → n < rows.bits → get_or (taken_of rows blocks) n false ≡ false
   found_free n free_bit in_row = get-taken_of rows blocks n (found_within n free_bit in_row) ∙ ap not free_bit
+
+  pub found_some : (n : ℕ) → get rows 0 n ≡ true → n < rows.bits → 1 ≤ free_count (taken_of rows blocks)
+  found_some n free_bit in_row =
+      let lt = found_within n free_bit in_row in
+      omega (arith, marked_fewer rows blocks free n sound lt (found_free n free_bit in_row))
+
+  -- the same of a search that may find none
+  module _ (found : Option ℕ) (free_bit : IfSome found (λ n. get rows 0 n ≡ true)) (in_row : IfSome found (λ n. n < rows.bits)) where
+    pub is_none : IfNone found (NoneTrue rows 0 0 rows.bits) → IsNone found ↔ (free_count (taken_of rows blocks) ≡ 0)
+    is_none none = go found free_bit in_row none
+      where
+        go : (o : Option ℕ) → IfSome o (λ n. get rows 0 n ≡ true) → IfSome o (λ n. n < rows.bits) → IfNone o (NoneTrue rows 0 0 rows.bits) → IsNone o ↔ (free_count (taken_of rows blocks) ≡ 0)
+        go None a b none = (λ _. none_found none, λ _. refl)
+        go (Some n) a b none = (λ no. absurd cc, λ zero. absurd (omega (arith, found_some n a b, zero)))
+
+    pub is_within : IfSome found (λ n. n < length (taken_of rows blocks))
+    is_within = go found free_bit in_row
+      where
+        go : (o : Option ℕ) → IfSome o (λ n. get rows 0 n ≡ true) → IfSome o (λ n. n < rows.bits) → IfSome o (λ n. n < length (taken_of rows blocks))
+        go None a b = tt
+        go (Some n) a b = omega (arith, length-taken_of rows blocks, found_within n a b)
+
+    pub is_free : IfSome found (λ n. get_or (taken_of rows blocks) n false ≡ false)
+    is_free = go found free_bit in_row
+      where
+        go : (o : Option ℕ) → IfSome o (λ n. get rows 0 n ≡ true) → IfSome o (λ n. n < rows.bits) → IfSome o (λ n. get_or (taken_of rows blocks) n false ≡ false)
+        go None a b = tt
+        go (Some n) a b = found_free n a b

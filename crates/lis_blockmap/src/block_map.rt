@@ -153,6 +153,8 @@ impl BlockMap {
         ensures same { IfNone result (bytes.now ≡ bitmap_bytes n self.now) }
         ensures differs { IfSome result (λ bit. IsFirstDifference n bytes.now self.now bit) }
     {
+        // The numbers of the blocks fit, since there are not more.
+        let _ = &self.blocks;
         for bit in 0..BLOCK_BITS {
             if has_bit(bytes, bit) != self.is_taken(BLOCK_BITS * n + bit) {
                 return Some(bit);
@@ -183,8 +185,9 @@ impl BlockMap {
     {
         // The bits past the last block are 0.
         bytes.fill(0);
+        let end = self.blocks.div_ceil(8);
         let first = BLOCK_LEN as u32 * n;
-        let count = (self.blocks.div_ceil(8) - first).min(BLOCK_LEN as u32);
+        let count = (end - first).min(BLOCK_LEN as u32);
         for k in 0..count {
             bytes[k as usize] = self.byte(first + k);
         }
@@ -196,7 +199,7 @@ impl BlockMap {
         ensures { result ≡ bits_number 8 (λ i. is_taken self.now (8 * k + i)) }
     {
         // The row has the free ones of eight blocks at once; the last byte may have fewer blocks.
-        if 8 * k + 8 <= self.blocks {
+        if self.blocks >= 8 * k + 8 {
             return !self.rows.byte(0, k);
         }
         let mut byte = 0;

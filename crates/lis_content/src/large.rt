@@ -83,7 +83,12 @@ fn read_index<D: Disk>(
         return Ok(());
     }
     let number = laid.blocks[(n / NUMBERS_PER_INDEX) as usize];
-    read_home(journal, disk, home(journal.blocks(), laid.base, number), index)
+    read_home(
+        journal,
+        disk,
+        home(journal.blocks(), laid.base, number),
+        index,
+    )
 }
 
 // The k-th number of a block, counted from 0.
@@ -330,12 +335,7 @@ fn is_formed(version: u32, block: &[u8], count: usize) -> bool
 }
 
 // Appends the first `count` numbers of an index block to those that are there.
-fn push_numbers(
-    numbers: &mut ArrayVec<u32, MOST_BLOCKS>,
-    version: u32,
-    block: &[u8],
-    count: usize,
-)
+fn push_numbers(numbers: &mut ArrayVec<u32, MOST_BLOCKS>, version: u32, block: &[u8], count: usize)
     requires whole { length block.now ≡ BLOCK_LEN }
     requires few { count ≤ NUMBERS_PER_INDEX }
     requires room { length numbers.old.items + count ≤ MOST_BLOCKS }
@@ -375,7 +375,12 @@ fn read_indexes<D: Disk>(
     let mut formed = true;
     let mut block = [0; BLOCK_LEN];
     for (j, n) in laid.blocks.iter().enumerate() {
-        read_home(journal, disk, home(journal.blocks(), laid.base, *n), &mut block)?;
+        read_home(
+            journal,
+            disk,
+            home(journal.blocks(), laid.base, *n),
+            &mut block,
+        )?;
         let count = index_count(laid.size, j as u32) as usize;
         push_numbers(numbers, laid.version, &block, count);
         formed &= is_formed(laid.version, &block, count);

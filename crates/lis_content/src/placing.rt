@@ -23,7 +23,9 @@ use arrayvec::ArrayVec;
 use lis_blockmap::BlockMap;
 use lis_fields::{number_width, write_wide};
 use lis_journal::Journal;
-use lis_limits::{BLOCK_LEN, MAX_FILE_BLOCKS, NUMBERS_PER_INDEX, SLOT_BLOCKS, V3_MAX_BLOCKS, V3_MAX_FILE};
+use lis_limits::{
+    BLOCK_LEN, MAX_FILE_BLOCKS, NUMBERS_PER_INDEX, SLOT_BLOCKS, V3_MAX_BLOCKS, V3_MAX_FILE,
+};
 use lis_model::limits::blocks_taken;
 use lis_ports::{Disk, Failed};
 

@@ -5,7 +5,7 @@ ghost use Rattle.lis_memdisk.specs.MemStation.{meaning_of};
 ghost use Rattle.lis_crashes.specs.Idle.{IsAtRest, HasStaged, IsSameDisk};
 
 use lis_journal::{Capacity, Journal, Layout};
-use lis_limits::{BLOCK_LEN, MAX_PLACED, MAX_STAGED, PROPERTIES_START, RECORD_BLOCKS};
+use lis_limits::{BLOCK_LEN, MAX_PLACED, MAX_STAGED, RECORD_BLOCKS};
 use lis_memdisk::MemStation;
 use std::alloc::{AllocError, Global};
 use std::test::Fail;
@@ -26,7 +26,8 @@ pub const DISK_BLOCKS: u32 = 594;
 /// Bytes of the disk.
 pub const DISK_LEN: usize = 2_433_024;
 
-const FIRST: u32 = PROPERTIES_START;
+// The first home block, after block 0, the gates, and the blocks of the records.
+const FIRST: u32 = RECORD_BLOCKS + 2;
 
 const LAST: u32 = 593;
 
@@ -60,7 +61,7 @@ pub fn mounted(alloc: Global, image: &[u8]) -> Result<(MemStation, Journal), Fai
 
 // Stages a block that is filled with a byte.
 fn stage(alloc: Global, journal: &mut Journal, n: u32, fill: Option<u8>) -> Result<(), AllocError>
-    requires home { PROPERTIES_START ≤ n }
+    requires home { RECORD_BLOCKS + 2 ≤ n }
     requires within { n < DISK_BLOCKS }
     requires ready { HasStaged DISK_BLOCKS 1 journal.old }
     ensures ready { HasStaged DISK_BLOCKS (length journal.old.staged + 1) journal.new }
@@ -118,7 +119,7 @@ pub fn place_nines(alloc: Global, disk: &mut MemStation, journal: &mut Journal) 
 
 // The byte that fills a block.
 fn fill_of(alloc: Global, disk: &mut MemStation, journal: &Journal, n: u32) -> Result<u8, Fail>
-    requires home { PROPERTIES_START ≤ n }
+    requires home { RECORD_BLOCKS + 2 ≤ n }
     requires within { n < DISK_BLOCKS }
     requires idle { IsAtRest DISK_BLOCKS journal.now }
     requires long { DISK_LEN ≤ (meaning_of disk.old).len }

@@ -17,7 +17,7 @@ ghost use Rattle.lis_kept.specs.Changes.{Describes, Drops, Files};
 mod blocks;
 
 use crate::metadata::Metadata;
-use crate::places::{files_start, rows_start};
+use crate::places::{descriptions_start, files_start};
 use lis_bits::Flags;
 use lis_ext::Ext;
 use lis_fields::FileRec;
@@ -32,7 +32,7 @@ fn mark_rows(ext: &Ext, limits: &Limits, marks: &mut Flags)
     requires below { IsTrue (list_all (λ n. nat_lt n limits.now.props) ext.now.marks) }
     ensures { marks.new ≡ marked marks.old (map (block_of limits.now Rows) ext.now.marks) }
 {
-    let first = rows_start(limits);
+    let first = descriptions_start(limits);
     let per_block = BLOCK_LEN as u32 / (limits.files / 8);
     for k in 0..limits.props {
         match ext.changed(k) {

@@ -22,13 +22,14 @@ mod undeclaring;
 mod without;
 
 use crate::metadata::Metadata;
+use crate::places::properties_start;
 use crate::test_edges::insert_test;
 use crate::words::without::is_had_without;
 use lis_bits::Flags;
 use lis_dict::Dict;
 use lis_ext::Ext;
 use lis_fields::AxiomSlot;
-use lis_limits::{PROPERTIES_PER_BLOCK, PROPERTIES_START};
+use lis_limits::PROPERTIES_PER_BLOCK;
 use lis_model::limits::Limits;
 use lis_taxonomy::Taxonomy;
 use lis_words::{Word, head_of, is_valued};
@@ -40,7 +41,10 @@ fn mark_property(marks: &mut Flags, limits: &Limits, number: u32)
     requires long { data_start limits.now ≤ length marks.old }
     ensures { marks.new ≡ slice_set marks.old (block_of limits.now Properties number) true }
 {
-    marks.put(PROPERTIES_START + number / PROPERTIES_PER_BLOCK, true);
+    marks.put(
+        properties_start(limits) + number / PROPERTIES_PER_BLOCK,
+        true,
+    );
 }
 
 // The number of the head of a valued word.

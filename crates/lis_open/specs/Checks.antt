@@ -1,5 +1,5 @@
 -- The checks of opening: which part fails its check, by what the blocks of an image hold, and the order of the parts.
-use Rattle.std.specs.Prelude.{◌≡◌, ◌≢◌, ◌⊎◌, ℕ, ◌/◌, ◌≤◌, ◌<◌, Bool, false, List, [], Some, None, length, IsTrue}
+use Rattle.std.specs.Prelude.{◌≡◌, ◌≢◌, ◌⊎◌, ℕ, ◌+◌, ◌*◌, ◌/◌, ◌%◌, ◌≤◌, ◌<◌, Bool, false, List, [], Some, None, length, IsTrue}
 use Rattle.std.specs.BTreeSet.{insert_key}
 use Rattle.std.specs.List.{fold, Contains}
 use Rattle.lis_limits.specs.declared.TheConstants.{BLOCK_BITS, MAX_DESCRIPTION}
@@ -18,7 +18,7 @@ use Rattle.lis_words.specs.Words.{is_plain_word, is_valued, head_bytes, has_word
 use Rattle.lis_model.specs.declared.limits.Limits.{Limits}
 use Rattle.lis_model.specs.declared.spot.Spot.{Spot}
 use Rattle.lis_model.specs.declared.spot.Spot.TheVariants.{Super, BadRecord, Property, Axiom, File, Word, Bitmap, Row}
-use Rattle.lis_model.specs.Image.{bitmap_start}
+use Rattle.lis_model.specs.Image.{bitmap_start, bitmap_blocks}
 use Rattle.lis_model.specs.Sets.{set_of, are_distinct, has_number}
 use Rattle.lis_model.specs.State.{Entails, file_words, known, is_assignable, is_nameable, pair_cmp}
 use Rattle.lis_kept.specs.Areas.{property_slots, axiom_slots, file_slots, row_slots}
@@ -66,7 +66,7 @@ pub record HasWord (limits : Limits) (at : ℕ → List ℕ) (n : ℕ) (word : L
   pub is : IsProperty limits at n property
   pub has : word_in property ≡ Some word
 
--- some file uses the block, for its bytes or as its index block
+-- some file uses the block, for its bytes or as an index block
 pub record IsUsed (limits : Limits) (at : ℕ → List ℕ) (data_block : ℕ) : Type 0 where
   pub slot : ℕ
   pub rec : FileRecord
@@ -147,7 +147,7 @@ pub data FileFault (limits : Limits) (at : ℕ → List ℕ) (properties : List 
       → is_assignable (declared_by properties) word ≡ false → FileFault limits at properties axioms n rec
   -- there is no such block
   BlockMissing : (data_block : ℕ) → IsTrue (has_number (blocks_told limits at rec) data_block) → limits.blocks ≤ data_block → FileFault limits at properties axioms n rec
-  -- its index block is malformed
+  -- an index block of it is malformed
   IndexUnformed : (HasIndex limits at rec → ⊥) → FileFault limits at properties axioms n rec
   -- it uses a block twice
   BlockTwice : are_distinct (blocks_told limits at rec) ≡ false → FileFault limits at properties axioms n rec
@@ -184,10 +184,14 @@ pub record WordFails (limits : Limits) (at : ℕ → List ℕ) (n : ℕ) : Type 
   pub has : word_at contents.properties n ≡ Some word
   pub unknown : has_word (known (spelled_state limits contents at)) word ≡ false
 
+-- bit n of the bitmap, over all its blocks
+abbrev pub has_bitmap_bit : Limits → (ℕ → List ℕ) → ℕ → Bool
+has_bitmap_bit limits at n = has_bit (at (bitmap_start limits + n / BLOCK_BITS)) (n % BLOCK_BITS)
+
 -- A bit of the bitmap is 1 and no file uses the block, or it is 0 and some file does.
 pub record BitFails (limits : Limits) (at : ℕ → List ℕ) (n : ℕ) : Type 0 where
-  pub below : n < BLOCK_BITS
-  pub fault : (IsTrue (has_bit (at (bitmap_start limits)) n) × (IsUsed limits at n → ⊥)) ⊎ ((has_bit (at (bitmap_start limits)) n ≡ false) × IsUsed limits at n)
+  pub below : n < BLOCK_BITS * bitmap_blocks limits
+  pub fault : (IsTrue (has_bitmap_bit limits at n) × (IsUsed limits at n → ⊥)) ⊎ ((has_bitmap_bit limits at n ≡ false) × IsUsed limits at n)
 
 -- what may be wrong with a row
 pub data RowFault (limits : Limits) (at : ℕ → List ℕ) (contents : Contents) (n : ℕ) : Type 0 where

@@ -41,7 +41,7 @@ pub record IsWiped (limits : Limits) (image : List ℕ) : Type 0 where
 
 -- a block that making leaves alone: one of the records, a data block, or one past the image
 abbrev pub IsSpare : Limits → ℕ → Type 0
-IsSpare limits n = ((2 ≤ n) × (n < properties_start)) ⊎ (data_start limits ≤ n)
+IsSpare limits n = ((2 ≤ n) × (n < properties_start limits)) ⊎ (data_start limits ≤ n)
 
 abbrev pub KeepsSpare : Limits → List ℕ → List ℕ → Type 0
 KeepsSpare limits bytes image = (n : ℕ) → IsSpare limits n → block n image ≡ block n bytes
@@ -56,7 +56,7 @@ pub record IsWiping (limits : Limits) (from image : List ℕ) : Type 0 where
 pub record IsMade (limits : Limits) (bytes image : List ℕ) : Type 0 where
   pub super : block 0 image ≡ super_bytes limits
   pub gate : block 1 image ≡ zeros BLOCK_LEN
-  pub homes : AreZeros properties_start (data_start limits) image
+  pub homes : AreZeros (properties_start limits) (data_start limits) image
   pub spare : KeepsSpare limits bytes image
 
 -- it is as it was, or represents the empty state or no state

@@ -1,14 +1,15 @@
 -- What is checked after words, axioms and files, and how all parts are joined. No public clause cites this module.
-use Rattle.std.specs.Prelude.{◌≡◌, ℕ, ◌≤◌, ◌<◌, nat_lt, Bool, false, not, ◌&&◌, if◌then◌else◌, is_some, Result, Ok, Err, List, length, replicate, IsTrue}
+use Rattle.std.specs.Prelude.{◌≡◌, ◌≢◌, ℕ, ◌+◌, ◌*◌, ◌≤◌, ◌<◌, nat_lt, Bool, false, not, ◌&&◌, if◌then◌else◌, is_some, Result, Ok, Err, List, length, replicate, IsTrue}
+use Rattle.lis_limits.specs.declared.TheConstants.{BLOCK_BITS}
 use Rattle.lis_bits.specs.Rows.{HasShape}
 use Rattle.lis_slots.specs.Slots.{slot}
-use Rattle.lis_blockmap.specs.Bitmap.{bitmap_bytes, IsFirstDifference}
+use Rattle.lis_blockmap.specs.Bitmap.{bitmap_bytes, is_taken}
 use Rattle.lis_dict.specs.Dict.{word_of}
 use Rattle.lis_ext.specs.Ext.{Ext}
 use Rattle.lis_model.specs.declared.limits.Limits.{Limits}
 use Rattle.lis_model.specs.declared.spot.Spot.{Spot}
 use Rattle.lis_model.specs.declared.spot.Spot.TheVariants.{Word, Bitmap, Row}
-use Rattle.lis_model.specs.Image.{bitmap_start, data_start}
+use Rattle.lis_model.specs.Image.{bitmap_start, bitmap_blocks, data_start}
 use Rattle.lis_model.specs.State.{State}
 use Rattle.lis_kept.specs.Metadata.{Metadata, metadata_of}
 use Rattle.lis_kept.specs.Areas.{IsWritten, axiom_slots, row_slots}
@@ -22,7 +23,7 @@ use Rattle.lis_open.specs.declared.axioms.Axioms.{Axioms}
 use Rattle.lis_open.specs.declared.files.Files.{Files}
 use Rattle.lis_open.specs.declared.memory.OpeningMemory.{OpeningMemory}
 use Rattle.lis_open.specs.declared.memory.LaterMemory.{LaterMemory}
-use Rattle.lis_open.specs.Checks.{Fails, rank}
+use Rattle.lis_open.specs.Checks.{Fails, has_bitmap_bit, rank}
 use Rattle.lis_open.specs.Reading.{PartsFail}
 use Rattle.lis_open.specs.ReadWords.{no_words, AreNoAxioms, AreFirstWords, AreFirstAxioms, WordsAreSpelled, AxiomsAreSpelled}
 use Rattle.lis_open.specs.ReadFiles.{no_files, AreFiles, FilesAreTold}
@@ -71,15 +72,25 @@ WordsChecked k (Ok done) = (n : ℕ) → is_stray k n ≡ false
 WordsChecked k (Err fault) = HasStray k fault
 
 -- ---- the bitmap
-abbrev pub Differs : List ℕ → List Bool → OpenFault → Type 0
-Differs bytes taken (Damaged spot) = (n : ℕ) × (spot ≡ Bitmap n) × IsFirstDifference bytes taken n
-Differs bytes taken DiskFault = Unit {0}
-Differs bytes taken NoMemory = ⊥
-Differs bytes taken (TooShort len need) = ⊥
+-- the first bit that is not as its data block: taken or free
+pub record IsFirstBit (limits : Limits) (at : ℕ → List ℕ) (taken : List Bool) (n : ℕ) : Type 0 where
+  pub below : n < BLOCK_BITS * bitmap_blocks limits
+  pub here : has_bitmap_bit limits at n ≢ is_taken taken n
+  pub none_before : (m : ℕ) → m < n → has_bitmap_bit limits at m ≡ is_taken taken m
 
-abbrev pub BitmapChecked : {T : Type 0} → List ℕ → List Bool → Result T OpenFault → Type 0
-BitmapChecked bytes taken (Ok done) = bytes ≡ bitmap_bytes taken
-BitmapChecked bytes taken (Err fault) = Differs bytes taken fault
+abbrev pub BitmapDiffers : Limits → (ℕ → List ℕ) → List Bool → OpenFault → Type 0
+BitmapDiffers limits at taken (Damaged spot) = (n : ℕ) × (spot ≡ Bitmap n) × IsFirstBit limits at taken n
+BitmapDiffers limits at taken DiskFault = Unit {0}
+BitmapDiffers limits at taken NoMemory = ⊥
+BitmapDiffers limits at taken (TooShort len need) = ⊥
+
+-- each block of the bitmap shows which data blocks are taken
+abbrev pub AreBitmapBlocks : Limits → (ℕ → List ℕ) → List Bool → Type 0
+AreBitmapBlocks limits at taken = (n : ℕ) → n < bitmap_blocks limits → at (bitmap_start limits + n) ≡ bitmap_bytes n taken
+
+abbrev pub BitmapChecked : {T : Type 0} → Limits → (ℕ → List ℕ) → List Bool → Result T OpenFault → Type 0
+BitmapChecked limits at taken (Ok done) = AreBitmapBlocks limits at taken
+BitmapChecked limits at taken (Err fault) = BitmapDiffers limits at taken fault
 
 -- ---- rows
 -- a row slot is spelled as the metadata requires, with zeros past the last number
@@ -143,7 +154,7 @@ pub record AreSpelled (limits : Limits) (at : ℕ → List ℕ) (words : Words) 
   pub properties : WordsAreSpelled limits at words limits.props
   pub pairs : AxiomsAreSpelled limits at axioms (axiom_slots limits).count
   pub records : FilesAreTold limits at words axioms files
-  pub bitmap : at (bitmap_start limits) ≡ bitmap_bytes files.map
+  pub bitmap : AreBitmapBlocks limits at files.map
   pub rows : (p : ℕ) → p < (row_slots limits).count → IsRowSpelled limits at files.ext p
 
 -- how reading all parts ended

@@ -6,7 +6,6 @@ use Rattle.lis_limits.specs.declared.TheConstants.{MAX_DESCRIPTION}
 use Rattle.lis_slots.specs.Slots.{slot}
 use Rattle.lis_blockmap.specs.Bitmap.{is_taken}
 use Rattle.lis_content.specs.Content.{marked, are_free}
-use Rattle.lis_content.specs.Large.{index_bytes, numbers_in, file_blocks, IsIndexed}
 use Rattle.lis_dict.specs.Dict.{Dict, number_of, word_of}
 use Rattle.lis_catalog.specs.Catalog.{Filed, IsCatalog, rec_at}
 use Rattle.lis_ext.specs.Ext.{Ext, set_of, empty_ext}
@@ -115,27 +114,16 @@ pub record AreUsable (taken : List Bool) (slot blocks : List ℕ) : Type 0 where
   pub free : IsTrue (are_free taken blocks)
   pub distinct : IsTrue (are_distinct blocks)
 
--- a record's index block is well formed, and its blocks are usable
+-- a record's index blocks are well formed, and its blocks are usable
 pub record HasBlocks (limits : Limits) (at : ℕ → List ℕ) (taken : List Bool) (rec : FileRecord) : Type 0 where
   pub indexed : HasIndex limits at rec
   pub free : IsTrue (are_free taken (blocks_told limits at rec))
   pub distinct : IsTrue (are_distinct (blocks_told limits at rec))
 
--- the numbers in an index block for this many bytes, if it is well formed
-abbrev pub AreIndexed : ℕ → List ℕ → Option (List ℕ) → Type 0
-AreIndexed size block None = block ≡ index_bytes (numbers_in (blocks_needed size) block) → ⊥
-AreIndexed size block (Some numbers) =
-    (numbers ≡ numbers_in (blocks_needed size) block) × (block ≡ index_bytes (numbers_in (blocks_needed size) block))
-
--- all blocks of a file by the numbers of its slot, if its index block is well formed
-abbrev pub AreReadBlocks : ℕ → List ℕ → ℕ → (ℕ → List ℕ) → Option (List ℕ) → Type 0
-AreReadBlocks base slot size at None = IsIndexed base slot size at → ⊥
-AreReadBlocks base slot size at (Some blocks) = IsIndexed base slot size at × (blocks ≡ file_blocks base slot size at)
-
--- and if they are usable too
-abbrev pub AreItsBlocks : Limits → (ℕ → List ℕ) → List Bool → FileRecord → Option (List ℕ) → Type 0
-AreItsBlocks limits at taken rec None = HasBlocks limits at taken rec → ⊥
-AreItsBlocks limits at taken rec (Some blocks) = HasIndex limits at rec × (blocks ≡ blocks_told limits at rec)
+-- whether a record has usable blocks, and that they are these
+abbrev pub AreItsBlocks : Limits → (ℕ → List ℕ) → List Bool → FileRecord → List ℕ → Bool → Type 0
+AreItsBlocks limits at taken rec blocks false = HasBlocks limits at taken rec → ⊥
+AreItsBlocks limits at taken rec blocks true = HasIndex limits at rec × (blocks ≡ blocks_told limits at rec)
 
 -- ---- one file
 -- the slot is free for a file: it has none, and no numbers

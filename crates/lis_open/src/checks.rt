@@ -1,16 +1,16 @@
 //! What else must hold of an image: each word is in use, and the bitmap and the rows are right.
 
-ghost use Rattle.std.specs.Prelude.{◌≡◌, ◌↔◌, ◌/◌, ◌<◌, ◌≤◌, ◌||◌, ◌&&◌, not, is_some, ℕ, Bool, List, length, false, Some, slice_get, IsTrue, IfOk};
+ghost use Rattle.std.specs.Prelude.{◌≡◌, ◌↔◌, ◌+◌, ◌/◌, ◌<◌, ◌≤◌, ◌||◌, ◌&&◌, not, is_some, ℕ, Bool, List, length, false, Some, slice_get, IsTrue, IfOk, IfNone, IfSome};
 ghost use Rattle.std.specs.List.{list_any};
 ghost use Rattle.lis_ports.specs.Calls.{ReadsDisk};
 ghost use Rattle.lis_journal.specs.Images.{Fits};
 ghost use Rattle.lis_bits.specs.Rows.{HasShape, get};
-ghost use Rattle.lis_blockmap.specs.Bitmap.{is_taken};
+ghost use Rattle.lis_blockmap.specs.Bitmap.{is_taken, bitmap_bytes, IsFirstDifference};
 ghost use Rattle.lis_dict.specs.Dict.{word_of};
 ghost use Rattle.lis_ext.specs.Ext.{has};
 ghost use Rattle.lis_fields.specs.declared.slots.AxiomSlot.TheVariants.{Pair};
 ghost use Rattle.lis_model.specs.Ranges.{are_stored};
-ghost use Rattle.lis_model.specs.Image.{bitmap_start};
+ghost use Rattle.lis_model.specs.Image.{bitmap_start, bitmap_blocks};
 ghost use Rattle.lis_kept.specs.Areas.{axiom_slots, row_slots};
 ghost use Rattle.lis_kept.specs.Rows.{row_bytes};
 ghost use Rattle.lis_kept.specs.Telling.{is_had, is_left_of, is_left_head_of};
@@ -29,9 +29,9 @@ use lis_blockmap::BlockMap;
 use lis_ext::Ext;
 use lis_fields::{AxiomSlot, are_zeros};
 use lis_journal::Journal;
-use lis_kept::{bitmap_start, rows_start};
-use lis_limits::{BLOCK_LEN, MAX_FILES};
-use lis_model::limits::Limits;
+use lis_kept::{bitmap_start, descriptions_start};
+use lis_limits::{BLOCK_BITS, BLOCK_LEN, MAX_FILES};
+use lis_model::limits::{Limits, bitmap_blocks};
 use lis_model::spot::Spot;
 use lis_ports::{Disk, Failed};
 
@@ -117,6 +117,28 @@ pub fn check_words(
     Ok(())
 }
 
+// Reads block `n` of the bitmap. The result is the first of its bits that is not as its data block: taken or free.
+fn read_bits<D: Disk>(
+    disk: &mut D,
+    journal: &Journal,
+    limits: &Limits,
+    map: &BlockMap,
+    n: u32,
+) -> Result<Option<u32>, Failed>
+    requires readable { IsReadable limits.now journal.now (D.meaning disk.old) }
+    requires there { n < bitmap_blocks limits.now }
+    requires map { length map.now ≡ limits.now.blocks }
+    ensures disk { ReadsDisk (D.meaning disk.old) (D.meaning disk.new) result }
+    ensures same { IfOk result (λ found. IfNone found ((kept : ℕ → List ℕ) → Fits journal.now (D.meaning disk.old) kept
+        → kept (bitmap_start limits.now + n) ≡ bitmap_bytes n map.now)) }
+    ensures differs { IfOk result (λ found. IfSome found (λ bit. (kept : ℕ → List ℕ) → Fits journal.now (D.meaning disk.old) kept
+        → IsFirstDifference n (kept (bitmap_start limits.now + n)) map.now bit)) }
+{
+    let mut bytes = [0; BLOCK_LEN];
+    journal.read(disk, bitmap_start(limits) + n, &mut bytes)?;
+    Ok(map.first_difference(n, &bytes))
+}
+
 /// Checks that the bitmap shows which data blocks files use.
 pub fn check_bitmap<D: Disk>(
     disk: &mut D,
@@ -125,16 +147,17 @@ pub fn check_bitmap<D: Disk>(
     map: &BlockMap,
 ) -> Result<(), OpenFault>
     requires readable { IsReadable limits.now journal.now (D.meaning disk.old) }
+    requires map { length map.now ≡ limits.now.blocks }
     ensures disk { ReadsPart (D.meaning disk.old) (D.meaning disk.new) result }
     ensures ended { (kept : ℕ → List ℕ) → Fits journal.now (D.meaning disk.old) kept
-        → BitmapChecked (kept (bitmap_start limits.now)) map.now result }
+        → BitmapChecked limits.now kept map.now result }
 {
-    let mut bytes = [0; BLOCK_LEN];
-    journal.read(disk, bitmap_start(limits), &mut bytes)?;
-    match map.first_difference(&bytes) {
-        None => Ok(()),
-        Some(n) => Err(OpenFault::Damaged(Spot::Bitmap(n))),
+    for n in 0..bitmap_blocks(limits) {
+        if let Some(bit) = read_bits(disk, journal, limits, map, n)? {
+            return Err(OpenFault::Damaged(Spot::Bitmap(BLOCK_BITS * n + bit)));
+        }
     }
+    Ok(())
 }
 
 // How many rows there is room for in the part.
@@ -143,7 +166,7 @@ fn row_count(limits: &Limits) -> u32
     ensures { result ≡ (row_slots limits.now).count }
 {
     let per_block = BLOCK_LEN as u32 / (limits.files / 8);
-    per_block * (bitmap_start(limits) - rows_start(limits))
+    per_block * (bitmap_start(limits) - descriptions_start(limits))
 }
 
 // Whether the bytes are those of a number's row. Past the last number a row is zeros.
@@ -182,7 +205,7 @@ fn read_row<D: Disk>(
 {
     let mut row = [0; MAX_ROW];
     let row = &mut row[..limits.files as usize / 8];
-    last.read_slot(disk, journal, rows_start(limits), p, row)?;
+    last.read_slot(disk, journal, descriptions_start(limits), p, row)?;
     Ok(is_row(ext, limits, p, row))
 }
 

@@ -10,8 +10,9 @@ ghost use Rattle.lis_model.specs.Image.{image_blocks};
 ghost use Rattle.lis_open.specs.Makes.{Same, first_byte, IsNameless, IsSpared, AreZeros, IsWiped, IsWiping, rest_of_super};
 
 use lis_fields::write_super;
-use lis_limits::{BLOCK_LEN, PROPERTIES_START};
-use lis_model::limits::{Limits, image_blocks};
+use lis_kept::{data_start, properties_start};
+use lis_limits::BLOCK_LEN;
+use lis_model::limits::Limits;
 use lis_ports::{Disk, Failed};
 
 /// The byte that an image begins with.
@@ -109,6 +110,6 @@ pub fn wipe<D: Disk>(disk: &mut D, limits: &Limits) -> Result<(), Failed>
 {
     write_rest(disk, limits)?;
     clear_blocks(disk, GATE_BLOCK, GATE_BLOCK + 1)?;
-    clear_blocks(disk, PROPERTIES_START, image_blocks(limits) - limits.blocks)?;
+    clear_blocks(disk, properties_start(limits), data_start(limits))?;
     disk.sync()
 }

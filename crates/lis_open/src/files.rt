@@ -32,7 +32,7 @@ use crate::words::Words;
 use arrayvec::ArrayVec;
 use lis_blockmap::BlockMap;
 use lis_catalog::{Catalog, Unsorted};
-use lis_content::Buffer;
+use lis_content::{Buffer, MOST_BLOCKS};
 use lis_derive::derive_words;
 use lis_ext::Ext;
 use lis_fields::{FileRec, FileSlot, read_file};
@@ -228,6 +228,16 @@ fn file(slots: &mut FileSlots, slot: u32, rec: FileRec, blocks: &[u32], numbers:
     slots.ext.settle();
 }
 
+/// Memory that each file is read with.
+#[derive(Drop)]
+pub struct FileScratch {
+    /// It finds the description of the file.
+    pub search: Search,
+    pub bytes: Buffer,
+    /// All blocks of the file.
+    pub blocks: ArrayVec<u32, MOST_BLOCKS>,
+}
+
 /// What the reader of files only reads.
 #[derive(Clone, Copy)]
 pub struct Known<'a> {
@@ -243,8 +253,7 @@ fn take_record<D: Disk>(
     disk: &mut D,
     known: Known,
     slots: &mut FileSlots,
-    search: &mut Search,
-    bytes: &mut Buffer,
+    scratch: &mut FileScratch,
     slot: u32,
     rec: FileRec,
 ) -> Result<bool, Failed>
@@ -265,11 +274,17 @@ fn take_record<D: Disk>(
     if !are_assignable(known.words, rec.tags.as_slice()) {
         return Ok(false);
     }
-    let Some(blocks) = free_blocks(disk, known.journal, known.limits, &slots.map, &rec)? else {
+    let FileScratch {
+        search,
+        bytes,
+        blocks,
+    } = scratch;
+    blocks.clear();
+    if !free_blocks(disk, known.journal, known.limits, &slots.map, &rec, blocks)? {
         return Ok(false);
-    };
-    let all_blocks = blocks.as_slice();
-    read_content(disk, known.journal, known.limits, &rec, all_blocks, bytes)?;
+    }
+    let blocks = blocks.as_slice();
+    read_content(disk, known.journal, known.limits, &rec, blocks, bytes)?;
     match describe(
         known.words,
         &known.axioms.taxonomy,
@@ -279,7 +294,7 @@ fn take_record<D: Disk>(
     ) {
         None => Ok(false),
         Some(numbers) => {
-            file(slots, slot, rec, all_blocks, numbers.as_slice());
+            file(slots, slot, rec, blocks, numbers.as_slice());
             Ok(true)
         }
     }
@@ -290,8 +305,7 @@ fn take_file<D: Disk>(
     disk: &mut D,
     known: Known,
     slots: &mut FileSlots,
-    search: &mut Search,
-    bytes: &mut Buffer,
+    scratch: &mut FileScratch,
     slot: u32,
     found: Option<FileSlot>,
 ) -> Result<bool, Failed>
@@ -312,7 +326,7 @@ fn take_file<D: Disk>(
     match found {
         None => Ok(false),
         Some(FileSlot::Free) => Ok(true),
-        Some(FileSlot::Used(rec)) => take_record(disk, known, slots, search, bytes, slot, rec),
+        Some(FileSlot::Used(rec)) => take_record(disk, known, slots, scratch, slot, rec),
     }
 }
 
@@ -322,8 +336,7 @@ fn read_records<D: Disk>(
     disk: &mut D,
     known: Known,
     slots: &mut FileSlots,
-    search: &mut Search,
-    bytes: &mut Buffer,
+    scratch: &mut FileScratch,
 ) -> Result<u32, Failed>
     requires readable { IsReadable known.limits.now known.journal.now (D.meaning disk.old) }
     requires words { AreFirstWords known.limits.now known.words.now known.limits.now.props }
@@ -339,7 +352,7 @@ fn read_records<D: Disk>(
 {
     for slot in 0..known.limits.files {
         let found = read_slot(last, disk, known.journal, known.limits, slot)?;
-        let is_taken = take_file(disk, known, slots, search, bytes, slot, found)?;
+        let is_taken = take_file(disk, known, slots, scratch, slot, found)?;
         if !is_taken {
             return Ok(slot);
         }
@@ -355,8 +368,7 @@ pub fn read_files<D: Disk>(
     disk: &mut D,
     known: Known,
     slots: FileSlots,
-    search: &mut Search,
-    bytes: &mut Buffer,
+    scratch: &mut FileScratch,
 ) -> Result<Files, OpenFault>
     requires readable { IsReadable known.limits.now known.journal.now (D.meaning disk.old) }
     requires words { AreFirstWords known.limits.now known.words.now known.limits.now.props }
@@ -371,7 +383,7 @@ pub fn read_files<D: Disk>(
         → FilesEnded known.entry.limits.now kept known.entry.words.now known.entry.axioms.now result }
 {
     let mut slots = slots;
-    let end = read_records(last, disk, known, &mut slots, search, bytes)?;
+    let end = read_records(last, disk, known, &mut slots, scratch)?;
     let FileSlots { unsorted, map, ext } = slots;
     let slot = match unsorted.sort() {
         Ok(catalog) if end == known.limits.files => return Ok(Files { catalog, map, ext }),

@@ -7,8 +7,9 @@ ghost use Rattle.lis_open.specs.ReadFiles.{no_files};
 ghost use Rattle.lis_open.specs.ReadWords.{no_words, AreNoAxioms};
 
 use crate::axioms::{Axioms, no_axioms};
-use crate::files::{FileSlots, no_files};
+use crate::files::{FileScratch, FileSlots, no_files};
 use crate::words::{WordSlots, no_words};
+use arrayvec::ArrayVec;
 use lis_bits::{Flags, Rows};
 use lis_content::Buffer;
 use lis_kept::data_start;
@@ -39,10 +40,7 @@ pub struct LaterMemory {
     pub axioms: Axioms,
     /// The check of the words uses it.
     pub row: Rows,
-    /// It finds the descriptions of files.
-    pub search: Search,
-    /// The bytes of the file that is read.
-    pub bytes: Buffer,
+    pub scratch: FileScratch,
     /// By block: it must be written.
     pub marks: Flags,
 }
@@ -83,8 +81,11 @@ pub fn take_memory(alloc: Global, limits: &Limits) -> Result<OpeningMemory, Allo
     ensures { IfOk result (IsEmptyMemory limits.now) }
 {
     let row = Rows::new(alloc, 1, limits.props)?;
-    let search = Search::new(alloc)?;
-    let bytes = Buffer::new(alloc)?;
+    let scratch = FileScratch {
+        search: Search::new(alloc)?,
+        bytes: Buffer::new(alloc)?,
+        blocks: ArrayVec::new(),
+    };
     let marks = Flags::new(alloc, 64 * data_start(limits).div_ceil(64))?;
     let slots = take_slot_memory(alloc, limits)?;
     Ok(OpeningMemory {
@@ -93,8 +94,7 @@ pub fn take_memory(alloc: Global, limits: &Limits) -> Result<OpeningMemory, Allo
         later: LaterMemory {
             axioms: slots.axioms,
             row,
-            search,
-            bytes,
+            scratch,
             marks,
         },
     })

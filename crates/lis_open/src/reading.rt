@@ -53,14 +53,7 @@ fn read_slots<D: Disk>(
         words,
         axioms: &memory.axioms,
     };
-    read_files(
-        last,
-        disk,
-        known,
-        slots,
-        &mut memory.search,
-        &mut memory.bytes,
-    )
+    read_files(last, disk, known, slots, &mut memory.scratch)
 }
 
 // Checks what must hold after the slots: words are in use, and the bitmap and the rows are right.
@@ -194,6 +187,6 @@ pub fn read_store<D: Disk>(
     Ok(Store::join(Built {
         metadata,
         journal,
-        bytes: later.bytes,
+        bytes: later.scratch.bytes,
     }))
 }

@@ -15,7 +15,8 @@ use lis_bits::Flags;
 use lis_dict::{Dict, Unsorted};
 use lis_fields::{PropSlot, read_prop};
 use lis_journal::Journal;
-use lis_limits::{PROP_LEN, PROPERTIES_START};
+use lis_kept::properties_start;
+use lis_limits::PROP_LEN;
 use lis_model::limits::Limits;
 use lis_model::spot::Spot;
 use lis_ports::{Disk, Failed};
@@ -76,7 +77,7 @@ fn read_property<D: Disk>(
         → IsReadAs prop_bytes is_prop (property_slots limits.now) kept number found) }
 {
     let mut bytes = [0; PROP_LEN];
-    last.read_slot(disk, journal, PROPERTIES_START, number, &mut bytes)?;
+    last.read_slot(disk, journal, properties_start(limits), number, &mut bytes)?;
     Ok(read_prop(&bytes))
 }
 

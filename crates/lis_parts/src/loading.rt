@@ -1,39 +1,17 @@
 //! The bytes of a file, read into memory.
 
-ghost use Rattle.std.specs.Prelude.{◌≡◌, ℕ, List, Some, length, OnOk, IsSomeAnd, IsTrue};
+ghost use Rattle.std.specs.Prelude.{◌≡◌, ℕ, List, Some, OnOk, IsSomeAnd};
 ghost use Rattle.lis_ports.specs.Calls.{ReadsDisk};
 ghost use Rattle.lis_catalog.specs.Catalog.{slot_of, rec_at};
 ghost use Rattle.lis_fields.specs.Records.{FileRecord};
 ghost use Rattle.lis_model.specs.Changes.{file_of};
 ghost use Rattle.lis_model.specs.State.{State};
-ghost use Rattle.lis_store.specs.Stored.{IsSound, StoreFits, IsIndex, IsUsable};
+ghost use Rattle.lis_store.specs.Stored.{IsSound, StoreFits, IsUsable};
 
 use lis_limits::BLOCK_LEN;
 use lis_line::reader::Payload;
 use lis_ports::{Disk, Failed};
 use lis_store::Store;
-
-// Reads the index block of the file in the slot, which has this many bytes, if it has one.
-fn read_index<D: Disk>(
-    store: &Store,
-    slot: u32,
-    size: u32,
-    index: &mut [u8],
-    disk: &mut D,
-) -> Result<(), Failed>
-    requires size { IsSomeAnd (rec_at store.now.metadata.catalog slot) (λ (rec : FileRecord). size ≡ rec.size) }
-    requires whole { length index.old ≡ BLOCK_LEN }
-    requires usable { IsUsable store.now (D.meaning disk.old) }
-    ensures held { OnOk result (IsTrue (D.meaning disk.old).is_honest → IsIndex store.now (D.meaning disk.old).bytes slot index.new) }
-    ensures len { length index.new ≡ BLOCK_LEN }
-    ensures disk { ReadsDisk (D.meaning disk.old) (D.meaning disk.new) result }
-    ensures fits { (s : State) → StoreFits store.now (D.meaning disk.old) s → StoreFits store.now (D.meaning disk.new) s }
-{
-    if size == 0 {
-        return Ok(());
-    }
-    store.index(disk, slot, index)
-}
 
 /// Reads the bytes of the file in the slot, which has this many.
 pub fn load<D: Disk>(
@@ -53,10 +31,9 @@ pub fn load<D: Disk>(
 {
     bytes.clear();
     let mut index = [0; BLOCK_LEN];
-    read_index(store, slot, size, &mut index, disk)?;
     let mut block = [0; BLOCK_LEN];
     for n in 0..size.div_ceil(BLOCK_LEN as u32) {
-        store.content_by(disk, slot, &index, n, &mut block)?;
+        store.content_next(disk, slot, &mut index, n, &mut block)?;
         let rest = size as usize - BLOCK_LEN * n as usize;
         bytes.append(&block[..rest.min(BLOCK_LEN)]);
     }

@@ -1,6 +1,6 @@
 //! Showing the bytes of files.
 
-ghost use Rattle.std.specs.Prelude.{◌≡◌, ℕ, ◌*◌, ◌<◌, List, [], length, Some, IsTrue, IsSomeAnd};
+ghost use Rattle.std.specs.Prelude.{◌≡◌, ℕ, ◌+◌, ◌*◌, ◌<◌, List, [], length, Some, IsTrue, IsSomeAnd, OnOk};
 ghost use Rattle.lis_ports.specs.Bytes.{part};
 ghost use Rattle.lis_eval.specs.Room.{HasRoom};
 ghost use Rattle.lis_catalog.specs.Catalog.{slot_of, rec_at};
@@ -23,12 +23,12 @@ use lis_ports::{Failed, Station};
 use lis_store::Store;
 use lis_words::Name;
 
-// Shows the n-th block of the file in the slot, by its index block. The buffer is as long as a block.
+// Shows the n-th block of the file in the slot, after those before it. The buffers are as long as a block.
 fn show_block<T: Station>(
     store: &Store,
     slot: u32,
     size: u32,
-    index: &[u8],
+    index: &mut [u8],
     n: u32,
     block: &mut [u8],
     station: &mut T,
@@ -36,48 +36,25 @@ fn show_block<T: Station>(
     requires sound { IsSound store.now }
     requires size { IsSomeAnd (rec_at store.now.metadata.catalog slot) (λ (rec : FileRecord). size ≡ rec.size) }
     requires within { BLOCK_LEN * n < size }
-    requires index { length index.now ≡ BLOCK_LEN }
+    requires index { length index.old ≡ BLOCK_LEN }
     requires whole { length block.old ≡ BLOCK_LEN }
     requires usable { IsUsable store.now (T.meaning station.old) }
-    ensures shows { IsIndex store.now (T.meaning station.old).bytes slot index.now
+    ensures shows { IsIndex store.now (T.meaning station.old).bytes slot n index.old
         → (name : List ℕ) → slot_of store.now.metadata.catalog name ≡ Some slot
         → Does (λ (now : Situation). only_shows (part (BLOCK_LEN * n) BLOCK_LEN (file_of now.state.files name).bytes) now) (StoreFits store.now (T.meaning station.old)) []
         (T.meaning station.old) (T.meaning station.new) result (StoreFits store.now (T.meaning station.new)) [] }
+    ensures next { OnOk result (IsTrue (T.meaning station.old).is_honest → IsIndex store.now (T.meaning station.old).bytes slot n index.old
+        → IsIndex store.now (T.meaning station.old).bytes slot (n + 1) index.new) }
     ensures ends { Ends (T.meaning station.old) (T.meaning station.new) result }
     ensures disk { IsTrue (T.meaning station.old).is_honest → DiskStays (T.meaning station.old) (T.meaning station.new) }
+    ensures index { length index.new ≡ BLOCK_LEN }
     ensures whole { length block.new ≡ BLOCK_LEN }
 {
-    if let Err(Failed) = store.content_by(station, slot, index, n, block) {
+    if let Err(Failed) = store.content_next(station, slot, index, n, block) {
         return Err(End::DiskFault);
     }
     let rest = size as usize - BLOCK_LEN * n as usize;
     answer_bytes(station, &block[..rest.min(BLOCK_LEN)])
-}
-
-// Shows the bytes of the file in the slot block by block, by its index block.
-fn show_blocks<T: Station>(
-    store: &Store,
-    slot: u32,
-    size: u32,
-    index: &[u8],
-    station: &mut T,
-) -> Result<(), End>
-    requires sound { IsSound store.now }
-    requires size { IsSomeAnd (rec_at store.now.metadata.catalog slot) (λ (rec : FileRecord). size ≡ rec.size) }
-    requires index { length index.now ≡ BLOCK_LEN }
-    requires usable { IsUsable store.now (T.meaning station.old) }
-    ensures shows { IsIndex store.now (T.meaning station.old).bytes slot index.now
-        → (name : List ℕ) → slot_of store.now.metadata.catalog name ≡ Some slot
-        → Does (λ (now : Situation). only_shows (file_of now.state.files name).bytes now) (StoreFits store.now (T.meaning station.old)) []
-        (T.meaning station.old) (T.meaning station.new) result (StoreFits store.now (T.meaning station.new)) [] }
-    ensures ends { Ends (T.meaning station.old) (T.meaning station.new) result }
-    ensures disk { IsTrue (T.meaning station.old).is_honest → DiskStays (T.meaning station.old) (T.meaning station.new) }
-{
-    let mut block = [0; BLOCK_LEN];
-    for n in 0..size.div_ceil(BLOCK_LEN as u32) {
-        show_block(store, slot, size, index, n, &mut block, station)?;
-    }
-    Ok(())
 }
 
 /// Shows the bytes of the file in the slot, block by block.
@@ -96,14 +73,12 @@ pub fn show_content<T: Station>(
     ensures ends { Ends (T.meaning station.old) (T.meaning station.new) result }
     ensures disk { IsTrue (T.meaning station.old).is_honest → DiskStays (T.meaning station.old) (T.meaning station.new) }
 {
-    if size == 0 {
-        return Ok(());
-    }
     let mut index = [0; BLOCK_LEN];
-    if let Err(Failed) = store.index(station, slot, &mut index) {
-        return Err(End::DiskFault);
+    let mut block = [0; BLOCK_LEN];
+    for n in 0..size.div_ceil(BLOCK_LEN as u32) {
+        show_block(store, slot, size, &mut index, n, &mut block, station)?;
     }
-    show_blocks(store, slot, size, &index, station)
+    Ok(())
 }
 
 // Shows the file in the slot: its size, its bytes, and a line feed after them.

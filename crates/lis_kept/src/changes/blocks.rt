@@ -5,14 +5,16 @@ ghost use Rattle.lis_ports.specs.Calls.{UsesDisk, ReadsDisk};
 ghost use Rattle.lis_journal.specs.Images.{Fits, JournalIsUsable};
 ghost use Rattle.lis_blockmap.specs.Bitmap.{free_count};
 ghost use Rattle.lis_catalog.specs.Catalog.{rec_at};
-ghost use Rattle.lis_content.specs.Large.{is_large};
+ghost use Rattle.lis_content.specs.Large.{is_large, slot_count, file_blocks};
 ghost use Rattle.lis_fields.specs.Records.{FileRecord};
 ghost use Rattle.lis_model.specs.Image.{data_start};
 ghost use Rattle.lis_model.specs.Ranges.{are_stored};
 ghost use Rattle.lis_model.specs.State.{blocks_taken, file_limit};
 ghost use Rattle.lis_kept.specs.Changes.{bitmap_homes, GivesBack, Puts, PutTorn};
 ghost use Rattle.std.specs.List.{list_all};
-ghost use Rattle.lis_content.specs.Content.{marked};
+ghost use Rattle.lis_content.specs.Content.{given, marked, are_within};
+ghost use Rattle.lis_journal.specs.Phases.{looked};
+ghost use Rattle.lis_journal.specs.Record.{homes_start};
 ghost use Rattle.lis_content.specs.Placing.{homes_of};
 ghost use Rattle.lis_kept.specs.Sound.{AreSound};
 ghost use Rattle.lis_journal.specs.Journal.{shape_of};
@@ -22,9 +24,10 @@ use crate::metadata::Metadata;
 use crate::places::{bitmap_start, data_start, laid_by};
 use arrayvec::ArrayVec;
 use lis_bits::Flags;
-use lis_content::{PutFault, give_all, is_large, place_file, put, read_blocks};
+use lis_blockmap::BlockMap;
+use lis_content::{Laid, PutFault, give_all, is_large, place_file, put, read_blocks};
 use lis_journal::Journal;
-use lis_limits::{BLOCK_BITS, SLOT_BLOCKS};
+use lis_limits::{BLOCK_BITS, SLOT_BLOCKS, V3_MAX_FILE};
 use lis_model::limits::Limits;
 use lis_ports::{Disk, Failed};
 
@@ -55,6 +58,48 @@ fn mark_homes(marks: &mut Flags, limits: &Limits, homes: &[u32])
     }
 }
 
+// Frees these blocks, and marks the blocks of the bitmap that have their bits.
+fn free_all(map: &mut BlockMap, marks: &mut Flags, limits: &Limits, blocks: &[u32])
+    requires range { IsTrue (are_stored limits.now) }
+    requires long { data_start limits.now ≤ length marks.old }
+    ensures given { map.new ≡ given map.old blocks.now }
+    ensures marks { marks.new ≡ marked marks.old (bitmap_homes limits.now blocks.now) }
+{
+    give_all(map, blocks);
+    mark_bits(marks, limits, blocks);
+}
+
+// Frees all blocks of a file with index blocks, and marks the blocks of the bitmap that have their bits.
+fn free_large<D: Disk>(
+    map: &mut BlockMap,
+    marks: &mut Flags,
+    limits: &Limits,
+    journal: &Journal,
+    disk: &mut D,
+    laid: Laid,
+) -> Result<(), Failed>
+    requires range { IsTrue (are_stored limits.now) }
+    requires long { data_start limits.now ≤ length marks.old }
+    requires few { laid.size ≤ V3_MAX_FILE }
+    requires count { length laid.blocks.now ≡ slot_count laid.size }
+    requires home { homes_start journal.now.layout ≤ laid.base }
+    requires within { IsTrue (are_within laid.base journal.now.layout.blocks laid.blocks.now) }
+    requires usable { JournalIsUsable journal.now (D.meaning disk.old) }
+    ensures freed { OnOk result ((blocks : List ℕ) × (map.new ≡ given map.old blocks)
+        × (marks.new ≡ marked marks.old (bitmap_homes limits.now blocks))
+        × ((kept : ℕ → List ℕ) → Fits journal.now (D.meaning disk.old) kept
+        → blocks ≡ file_blocks laid.entry.version laid.entry.base laid.entry.blocks.now laid.entry.size (looked journal.now.staged kept))) }
+    ensures stays { OnErr result ((map.new ≡ map.old) × (marks.new ≡ marks.old)) }
+    ensures disk { ReadsDisk (D.meaning disk.old) (D.meaning disk.new) result }
+    ensures fits { (kept : ℕ → List ℕ) → Fits journal.now (D.meaning disk.old) kept
+        → Fits journal.now (D.meaning disk.new) kept }
+{
+    let mut blocks = ArrayVec::new();
+    read_blocks(journal, disk, laid, &mut blocks)?;
+    free_all(map, marks, limits, blocks.as_slice());
+    Ok(())
+}
+
 impl Metadata {
     /// Puts bytes into free blocks, which it takes, and returns the numbers for the slot. The bytes are staged; if they are large, they are
     /// placed, with index blocks, and then nothing may be staged. After a disk fault the journal is broken.
@@ -81,7 +126,14 @@ impl Metadata {
         let base = data_start(&self.limits);
         let is_placed = is_large(bytes.len() as u32);
         let put = if is_placed {
-            place_file(&mut self.map, journal, disk, self.limits.version, base, bytes)
+            place_file(
+                &mut self.map,
+                journal,
+                disk,
+                self.limits.version,
+                base,
+                bytes,
+            )
         } else {
             put(&mut self.map, journal, disk, base, &[], bytes)
         };
@@ -119,10 +171,17 @@ impl Metadata {
             unreachable!()
         };
         let laid = laid_by(&self.limits, rec);
-        let mut blocks = ArrayVec::new();
-        read_blocks(journal, disk, laid, &mut blocks)?;
-        give_all(&mut self.map, blocks.as_slice());
-        mark_bits(&mut self.marks, &self.limits, blocks.as_slice());
+        if is_large(rec.size) {
+            return free_large(
+                &mut self.map,
+                &mut self.marks,
+                &self.limits,
+                journal,
+                disk,
+                laid,
+            );
+        }
+        free_all(&mut self.map, &mut self.marks, &self.limits, laid.blocks);
         Ok(())
     }
 }

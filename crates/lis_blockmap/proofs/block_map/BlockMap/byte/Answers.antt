@@ -2,9 +2,21 @@ use Rattle.std.proofs.Common.{ℕ, ◌≡◌, ◌+◌, ◌-◌, ◌*◌, ◌≤�
 use Rattle.lis_bits.specs.Bytes.{bits_number}
 use Rattle.lis_bits.specs.Rows.{get}
 use Rattle.lis_blockmap.specs.Bitmap.{is_taken}
-use Rattle.lis_blockmap.proofs.Taken.{get-taken_of}
+use Rattle.lis_blockmap.proofs.Taken.{get-taken_of, long}
 use Rattle.lis_blockmap.proofs.Bytes.{turned_over, byte_fits, number_more, bit_small}
 use Rattle.lis_blockmap.proofs.block_map.BlockMap.byte.Goals as goal
+
+pub overflow_mul-k : goal.overflow_mul-k
+overflow_mul-k c = omega (arith, long c.self.inside.rows c.self.inside.blocks c.args.self.now c.self.view_is, c.self.invariant.few, c.requires)
+
+pub overflow_add-k : goal.overflow_add-k
+overflow_add-k c = omega (arith, long c.self.inside.rows c.self.inside.blocks c.args.self.now c.self.view_is, c.self.invariant.few, c.requires)
+
+pub overflow_mul-k-in-loop-i : goal.overflow_mul-k-in-loop-i
+overflow_mul-k-in-loop-i c = omega (arith, long c.self.inside.rows c.self.inside.blocks c.args.self.now c.self.view_is, c.self.invariant.few, c.requires)
+
+pub overflow_add-k-in-loop-i : goal.overflow_add-k-in-loop-i
+overflow_add-k-in-loop-i c = omega (arith, long c.self.inside.rows c.self.inside.blocks c.args.self.now c.self.view_is, c.self.invariant.few, c.requires)
 
 pub loop-i-init : goal.loop-i-init
 unfolding bits_number
@@ -32,8 +44,8 @@ loop-i-preserved c =
     ap (λ bit. 2 * l.byte + bit) c.from.ensures
     ∙ number_more taken n l.i l.byte c.is_taken.result (c.is_taken.ensures ∙ ap taken here) (l.invariant ∙ ap (λ m. bits_number l.i (λ j. taken (m + j))) above)
 
-pub returns-then-k-self : goal.returns-then-k-self
-returns-then-k-self c =
+pub returns-then-self-k : goal.returns-then-self-k
+returns-then-self-k c =
     let e = c.self.inside in
     let k = c.args.k in
     let same = turned_over 8 (λ i. get e.rows 0 (8 * k + i)) (λ i. is_taken c.args.self.now (8 * k + i)) (λ i lt. rw (← c.self.view_is) (get-taken_of e.rows e.blocks (8 * k + i) (omega arith))) in
