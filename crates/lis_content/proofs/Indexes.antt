@@ -47,6 +47,9 @@ spelled_reads_back : (version : ℕ) (ns rest : List ℕ) → fit (number_width 
 spelled_reads_back version ns rest fits =
     sym (numbers_from version (length ns) (wide (number_width version) ns ++ rest) ns refl (λ k lt. sym (spelled_at (number_width version) ns rest k fits lt)))
 
+pub number_reads_back : (version : ℕ) (ns : List ℕ) (k : ℕ) → fit (number_width version) ns ≡ true → k < length ns → number_at version (index_bytes version ns) k ≡ get_or ns k 0
+number_reads_back version ns k fits lt = spelled_at (number_width version) ns _ k fits lt
+
 pub index_reads_back : (version : ℕ) (ns : List ℕ) → fit (number_width version) ns ≡ true → numbers_in version (length ns) (index_bytes version ns) ≡ ns
 index_reads_back version ns fits = spelled_reads_back version ns _ fits
 

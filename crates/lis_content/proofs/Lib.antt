@@ -5,6 +5,7 @@ mod IndexesRead
 mod Taking
 mod Rows
 pub mod Laying
+mod Indexing
 pub mod Reading
 pub mod Places
 pub mod Buffers
