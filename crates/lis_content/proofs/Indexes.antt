@@ -1,5 +1,5 @@
 -- Numbers in index blocks.
-use Rattle.std.proofs.Common.{◌≡◌, ◌⊎◌, inl, inr, ℕ, zero, suc, ◌+◌, ◌-◌, ◌*◌, ◌/◌, ◌%◌, ◌<◌, ◌≤◌, min, ◌==◌, nat_lt, nat_le, Bool, true, false, cond, if◌then◌else◌, List, [], ◌∷◌, ◌++◌, length, take, drop, get_or, refl, sym, ◌∙◌, ap, ap₂, subst, arith, append_assoc, length-append, length-drop, length-take, length-take-le, take-append-drop, drop-drop, get_or-take}
+use Rattle.std.proofs.Common.{◌≡◌, ◌⊎◌, inl, inr, ℕ, zero, suc, ◌+◌, ◌-◌, ◌*◌, ◌/◌, ◌%◌, ◌<◌, ◌≤◌, ◌==◌, nat_lt, nat_le, Bool, true, false, cond, if◌then◌else◌, List, [], ◌∷◌, ◌++◌, length, take, drop, get_or, refl, sym, ◌∙◌, ap, ap₂, subst, arith, append_assoc, length-append, length-take, length-take-le, take-append-drop, drop-drop, get_or-take}
 use Rattle.std.specs.List.{flat_map, list_all}
 use Rattle.std.proofs.Math.Nat.{mul-suc, mul-zero, mul-add}
 use Rattle.std.proofs.lemmas.Bool.{and_parts, le-ltb, ltb-true, cond-true, cond-false, ltb-false, leb-true, leb-false, cases_lt}
@@ -14,7 +14,7 @@ use Rattle.lis_fields.proofs.NumberLists.{wide, length_wide, read_wide}
 use Rattle.lis_fields.proofs.Widths.{padding_zero, padded_from}
 use Rattle.lis_words.specs.Bytes.{padded}
 use Rattle.lis_content.specs.Content.{content}
-use Rattle.lis_content.specs.Large.{is_large, slot_count, index_bytes, index_count, number_at, numbers_in, number_of, numbers_of, index_home, content_blocks, file_content, file_blocks}
+use Rattle.lis_content.specs.Large.{is_large, slot_count, index_bytes, number_at, numbers_in, number_of, numbers_of, index_home, content_blocks, file_content, file_blocks}
 
 pub length-numbers_in : (version count : ℕ) (bytes : List ℕ) → length (numbers_in version count bytes) ≡ count
 unfolding numbers_in
@@ -124,7 +124,7 @@ pub numbers_of_same : (version base : ℕ) (slot : List ℕ) (count : ℕ) (at a
     → ((j : ℕ) → 1024 * j < count → after (index_home base slot j) ≡ at (index_home base slot j)) → numbers_of version base slot count after ≡ numbers_of version base slot count at
 numbers_of_same version base slot count at after same =
     numbers_of_from version base slot count at (numbers_of version base slot count after) (length-numbers_of version base slot count after) (λ k lt.
-        number-numbers_of version base slot count k after lt ∙ ap (λ bytes. number_at version bytes (k % 1024)) (same (k / 1024) (omega (arith, lt))))
+    number-numbers_of version base slot count k after lt ∙ ap (λ bytes. number_at version bytes (k % 1024)) (same (k / 1024) (omega (arith, lt))))
 
 -- ---- the two forms of a file
 pub large_numbers : (version base : ℕ) (slot : List ℕ) (size : ℕ) (at : ℕ → List ℕ) → is_large size ≡ true → content_blocks version base slot size at ≡ numbers_of version base slot (blocks_needed size) at

@@ -1,6 +1,6 @@
 -- Index blocks that are placed one by one, after the content whose blocks they number.
-use Rattle.std.proofs.Common.{◌≡◌, ◌⊎◌, inl, inr, ℕ, zero, suc, ◌+◌, ◌-◌, ◌*◌, ◌/◌, ◌%◌, ◌^◌, ◌<◌, ◌≤◌, min, ◌==◌, nat_lt, Bool, true, false, not, ◌||◌, ◌&&◌, cond, if◌then◌else◌, List, [], ◌∷◌, ◌++◌, length, take, drop, get_or, refl, sym, ◌∙◌, ap, ap₂, subst, arith, append_assoc, append-nil, length-append, length-drop, length-take, drop-drop, take-append-drop, get_or-take, get_or-drop, eqb, IsTrue}
-use Rattle.std.specs.List.{flat_map, list_all}
+use Rattle.std.proofs.Common.{◌≡◌, ◌⊎◌, inl, inr, ℕ, zero, suc, ◌+◌, ◌-◌, ◌*◌, ◌/◌, ◌%◌, ◌^◌, ◌<◌, ◌≤◌, min, ◌==◌, nat_lt, Bool, true, false, not, ◌&&◌, if◌then◌else◌, List, [], ◌∷◌, ◌++◌, length, take, drop, get_or, refl, sym, ◌∙◌, ap, ap₂, subst, arith, append_assoc, append-nil, length-append, length-drop, length-take, drop-drop, take-append-drop, get_or-take, get_or-drop, eqb}
+use Rattle.std.specs.List.{flat_map}
 use Rattle.std.proofs.lemmas.Bool.{and_parts, and_from, cond-true, cond-false, ne_eqb, eq-eqb, eqb-false, cases_lt, ltb-true, lt-ltb}
 use Rattle.std.proofs.lemmas.List.{drop_at, drop_all, take_all, length-map, get_or_append_left, get_or-append_right}
 use Rattle.std.proofs.lemmas.List.Folds.{list_all-append, list_any-append}
@@ -18,7 +18,7 @@ use Rattle.lis_journal.specs.Journal.{Held}
 use Rattle.lis_journal.specs.Images.{with_kept}
 use Rattle.lis_blockmap.specs.Bitmap.{free_count, is_taken}
 use Rattle.lis_content.specs.Content.{content, are_free}
-use Rattle.lis_content.specs.Large.{is_large, index_bytes, index_count, number_at, number_of, numbers_in, numbers_of, index_home}
+use Rattle.lis_content.specs.Large.{is_large, index_bytes, number_at, number_of, numbers_in, numbers_of, index_home}
 use Rattle.lis_content.specs.Placing.{Lays, IsLaid, HasFile, IsPlaced, OnePlaced}
 use Rattle.lis_content.proofs.Numbers.{are_below, below_from_free, neither}
 use Rattle.lis_content.proofs.Taking.{same_others}

@@ -10,7 +10,7 @@ ghost use Rattle.lis_content.specs.Large.{index_bytes, is_large, slot_count, ind
 ghost use Rattle.lis_content.specs.Inside.{IsWhole};
 ghost use Rattle.lis_journal.specs.Record.{homes_start};
 
-use crate::blocks::{fill, home, read_front};
+use crate::blocks::{home, read_front};
 use arrayvec::ArrayVec;
 use byteorder::{ByteOrder, LittleEndian};
 use lis_fields::{are_zeros, number_width, read_wide};

@@ -1,4 +1,4 @@
-use Rattle.std.proofs.Common.{ℕ, List, length, take, ◌∙◌, ap, subst, sym}
+use Rattle.std.proofs.Common.{ℕ, List, length, take, ◌∙◌, ap, subst}
 use Rattle.std.proofs.lemmas.Result.{on_ok_weaker}
 use Rattle.lis_journal.specs.Phases.{looked}
 use Rattle.lis_content.specs.Inside.{IsWhole}

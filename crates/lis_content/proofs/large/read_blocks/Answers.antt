@@ -1,4 +1,4 @@
-use Rattle.std.proofs.Common.{◌≡◌, true, false, sym, ◌∙◌}
+use Rattle.std.proofs.Common.{sym, ◌∙◌}
 use Rattle.std.proofs.lemmas.Bool.{false≢true}
 use Rattle.lis_content.proofs.large.read_blocks.Goals.{then-is_large+in_ok-are_formed, else-is_large}
 use Rattle.lis_content.proofs.large.read_blocks.Goals as goal

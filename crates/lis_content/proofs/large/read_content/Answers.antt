@@ -1,4 +1,4 @@
-use Rattle.std.proofs.Common.{◌≡◌, ℕ, List, ◌+◌, ◌-◌, ◌*◌, ◌<◌, min, length, get_or, sym, ◌∙◌, ap, take, drop, length-drop, arith}
+use Rattle.std.proofs.Common.{◌≡◌, ℕ, List, ◌+◌, ◌-◌, ◌*◌, ◌<◌, min, length, get_or, ◌∙◌, ap, take, drop, length-drop, arith}
 use Rattle.std.proofs.lemmas.Bool.{cond-true, lt-ltb}
 use Rattle.std.proofs.lemmas.List.{length-take-le, length-replicate}
 use Rattle.lis_ports.proofs.Ending.{ends_then}

@@ -1,8 +1,8 @@
-use Rattle.std.proofs.Common.{◌≡◌, ℕ, List, ◌+◌, ◌/◌, ◌*◌, ◌<◌, ◌++◌, length, sym, ◌∙◌, ap, subst, arith}
+use Rattle.std.proofs.Common.{◌≡◌, ◌*◌, ◌<◌, ◌++◌, sym, ◌∙◌, ap, subst, arith}
 use Rattle.lis_model.specs.State.{blocks_needed}
 use Rattle.lis_journal.specs.Images.{look}
 use Rattle.lis_journal.specs.Phases.{looked}
-use Rattle.lis_content.specs.Large.{index_count, index_home, numbers_in, numbers_of}
+use Rattle.lis_content.specs.Large.{index_home, numbers_in, numbers_of}
 use Rattle.lis_content.proofs.Indexes.{large_slot}
 use Rattle.lis_content.proofs.IndexesRead.{Spells, so_many, none_read, one_read}
 use Rattle.lis_content.proofs.large.read_indexes.Goals as goal

@@ -1,4 +1,3 @@
-use Rattle.std.proofs.Common.{length}
 use Rattle.lis_content.proofs.IndexesRead.{SoRead}
 use Rattle.lis_content.proofs.large.read_indexes.Given as goal
 

@@ -1,4 +1,4 @@
-use Rattle.std.proofs.Common.{rules, ◌≡◌, ◌+◌, ◌<◌, ◌∙◌, List, ℕ, length, take, replicate, ap, sym, arith}
+use Rattle.std.proofs.Common.{rules, ◌≡◌, ◌+◌, ◌∙◌, length, take, replicate, ap, sym, arith}
 use Rattle.std.proofs.lemmas.Bool.{le-ltb, cond-false}
 use Rattle.std.proofs.lemmas.List.{take-replicate}
 use Rattle.lis_content.proofs.large.read_within.Goals as goal
