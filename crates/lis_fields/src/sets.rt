@@ -41,7 +41,10 @@ pub fn read_set(bytes: &[u8]) -> Option<ArrayVec<u32, MAX_DESCRIPTION>>
     read_wide(bytes, &mut held, 3);
     let numbers = read_next(&held);
     let (_, padding) = bytes.split_at(4 * numbers.len());
-    if !are_zeros(padding) || !rise(numbers.as_slice()) {
+    if !are_zeros(padding) {
+        return None;
+    }
+    if !rise(numbers.as_slice()) {
         return None;
     }
     Some(numbers)
