@@ -323,4 +323,3 @@ largest_of_2 = refl
 largest_of_3 : image_blocks (record { files = 262144; props = 1048576; blocks = 16777216; version = 3 }) ≡ 16879170
 unfolding record_blocks description_blocks
 largest_of_3 = refl
-

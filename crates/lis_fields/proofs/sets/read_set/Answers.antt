@@ -29,9 +29,10 @@ pub returns-clause-spelled : goal.returns-clause-spelled
 returns-clause-spelled c =
     let numbers = c.read_next-numbers.result.items in
     let zeros = sym (ap are_zero c.split_at.ensures.back) ∙ (sym c.are_zeros.ensures ∙ c.if-not-are_zeros.false) in
-    let rising = sym (ap (is_rising nat_cmp) c.as_slice.ensures.value) ∙ (sym c.rise.ensures ∙ c.if-not-rise.false) in
-    (set_from numbers (record { few = omega arith; small = c.read_next-numbers.ensures.small; rising = rising }),
-    set_spelled c.args.bytes.now c.read_wide.new.numbers numbers (4 * c.len.result) c.if-bytes-ne-SET_LEN.false (omega arith) c.read_wide.ensures.spelled c.read_next-numbers.ensures.spelled (omega (arith, c.len.ensures.value)) zeros)
+    let rising = sym (ap (is_rising nat_cmp) c.as_slice.ensures.value) ∙ (sym c.rise.ensures ∙ c.if-not-rise.false) in (
+      set_from numbers (record { few = omega arith; small = c.read_next-numbers.ensures.small; rising = rising }),
+      set_spelled c.args.bytes.now c.read_wide.new.numbers numbers (4 * c.len.result) c.if-bytes-ne-SET_LEN.false (omega arith) c.read_wide.ensures.spelled c.read_next-numbers.ensures.spelled (omega (arith, c.len.ensures.value)) zeros,
+    )
 
 pub returns-clause-same : goal.returns-clause-same
 returns-clause-same c =
