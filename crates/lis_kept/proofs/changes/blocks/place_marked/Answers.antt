@@ -1,5 +1,5 @@
 use Rattle.std.proofs.Common.{arith}
-use Rattle.lis_kept.proofs.Common.{ℕ, ◌∙◌, ap, subst}
+use Rattle.lis_kept.proofs.Common.{ℕ, length, ◌∙◌, ap, subst}
 use Rattle.lis_content.specs.Placing.{IsPlaced}
 use Rattle.lis_model.proofs.Stored.{stored_limit_le}
 use Rattle.lis_kept.proofs.Image.{same_placed, stored_placed}
@@ -13,7 +13,7 @@ pub place_file-requires-clause-room : goal.place_file-requires-clause-room
 place_file-requires-clause-room g c =
     let limits = c.args.limits.now in
     let most = same_placed c.requires.image ∙ stored_placed limits c.requires.range in
-    omega (arith, most, few_taken _ (omega (arith, c.requires.short, stored_limit_le limits c.requires.range)))
+    omega (arith, most, few_taken (length c.args.bytes.now) (omega (arith, c.requires.short, stored_limit_le limits c.requires.range)))
 
 pub mark_homes-requires-clause-homes : goal.mark_homes-requires-clause-homes
 mark_homes-requires-clause-homes g c =
