@@ -17,7 +17,7 @@ ghost use Rattle.lis_kept.specs.Changes.{Describes, Drops, Files};
 mod blocks;
 
 use crate::metadata::Metadata;
-use crate::places::{files_start, descriptions_start};
+use crate::places::{descriptions_start, files_start};
 use lis_bits::Flags;
 use lis_ext::Ext;
 use lis_fields::FileRec;

@@ -35,13 +35,17 @@ use lis_taxonomy::Taxonomy;
 use lis_words::{Word, head_of, is_valued};
 
 // Marks the block of a property slot.
+#[tactic(auto, using(lis_model::proofs::Stored::stored_records, lis_model::proofs::Stored::few_limits))]
 fn mark_property(marks: &mut Flags, limits: &Limits, number: u32)
     requires range { IsTrue (are_stored limits.now) }
     requires number { number < limits.now.props }
     requires long { data_start limits.now ≤ length marks.old }
     ensures { marks.new ≡ slice_set marks.old (block_of limits.now Properties number) true }
 {
-    marks.put(properties_start(limits) + number / PROPERTIES_PER_BLOCK, true);
+    marks.put(
+        properties_start(limits) + number / PROPERTIES_PER_BLOCK,
+        true,
+    );
 }
 
 // The number of the head of a valued word.

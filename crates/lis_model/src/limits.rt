@@ -163,5 +163,10 @@ pub fn image_blocks(limits: &Limits) -> u32
     let axioms = limits.props.div_ceil(AXIOMS_PER_BLOCK as u32);
     let files = limits.files / FILES_PER_BLOCK;
     let slots = properties + axioms + files;
-    record_blocks(limits) + 2 + slots + description_blocks(limits) + bitmap_blocks(limits) + limits.blocks
+    record_blocks(limits)
+        + 2
+        + slots
+        + description_blocks(limits)
+        + bitmap_blocks(limits)
+        + limits.blocks
 }
