@@ -1,6 +1,5 @@
-use Rattle.std.proofs.Common.{◌≡◌, ◌∙◌, refl, sym, ap, ◌*◌, length, Some, arith}
+use Rattle.std.proofs.Common.{◌∙◌, sym, ap, ◌*◌, length, nat_cmp, Some, arith}
 use Rattle.lis_graph.specs.Graph.{is_rising}
-use Rattle.std.proofs.Common.{nat_cmp}
 use Rattle.lis_fields.proofs.Widths.{are_zero}
 use Rattle.lis_fields.proofs.SetNumbers.{set_tests, set_from, length_set, set_read, set_padding, set_spelled}
 use Rattle.lis_fields.proofs.sets.read_set.Goals as goal
@@ -29,9 +28,10 @@ pub returns-clause-spelled : goal.returns-clause-spelled
 returns-clause-spelled c =
     let numbers = c.read_next-numbers.result.items in
     let zeros = sym (ap are_zero c.split_at.ensures.back) ∙ (sym c.are_zeros.ensures ∙ c.if-not-are_zeros.false) in
-    let rising = sym (ap (is_rising nat_cmp) c.as_slice.ensures.value) ∙ (sym c.rise.ensures ∙ c.if-not-rise.false) in
-    (set_from numbers (record { few = omega arith; small = c.read_next-numbers.ensures.small; rising = rising }),
-    set_spelled c.args.bytes.now c.read_wide.new.numbers numbers (4 * c.len.result) c.if-bytes-ne-SET_LEN.false (omega arith) c.read_wide.ensures.spelled c.read_next-numbers.ensures.spelled (omega (arith, c.len.ensures.value)) zeros)
+    let rising = sym (ap (is_rising nat_cmp) c.as_slice.ensures.value) ∙ (sym c.rise.ensures ∙ c.if-not-rise.false) in (
+      set_from numbers (record { few = omega arith; small = c.read_next-numbers.ensures.small; rising = rising }),
+      set_spelled c.args.bytes.now c.read_wide.new.numbers numbers (4 * c.len.result) c.if-bytes-ne-SET_LEN.false (omega arith) c.read_wide.ensures.spelled c.read_next-numbers.ensures.spelled (omega (arith, c.len.ensures.value)) zeros,
+    )
 
 pub returns-clause-same : goal.returns-clause-same
 returns-clause-same c =
