@@ -1,5 +1,6 @@
-use Rattle.std.proofs.Common.{◌∙◌, sym, ap, ◌*◌, length, nat_cmp, Some, arith}
+use Rattle.std.proofs.Common.{◌≡◌, ◌∙◌, refl, sym, ap, ◌*◌, length, Some, arith}
 use Rattle.lis_graph.specs.Graph.{is_rising}
+use Rattle.std.proofs.Common.{nat_cmp}
 use Rattle.lis_fields.proofs.Widths.{are_zero}
 use Rattle.lis_fields.proofs.SetNumbers.{set_tests, set_from, length_set, set_read, set_padding, set_spelled}
 use Rattle.lis_fields.proofs.sets.read_set.Goals as goal
