@@ -1,6 +1,6 @@
 -- Blocks that are taken for a content, or freed.
 use Rattle.std.proofs.Common.{MatchResult, OnOk, OnErr, ap₂, arith, nat_le, min}
-use Rattle.lis_kept.proofs.Common.{rules, ◌≡◌, refl, sym, ap, ◌∙◌, subst, ℕ, zero, suc, ◌<◌, ◌≤◌, nat_lt, not, Bool, true, false, List, [], ◌∷◌, length, map, drop, Result, Ok, Err, list_all, and_parts, ltb-true, lt-ltb, Held, are_distinct, slot_count, FileRecord, Taxonomy, Among, marked, length-marked, data_start, all_among, and_from, all_from, ◌==◌, ◌&&◌, ◌||◌, ◌/◌, ◌*◌, Limits, cond, ◌+◌, ◌⊎◌, inl, inr, IsTrue, are_stored}
+use Rattle.lis_kept.proofs.Common.{rules, ◌≡◌, refl, sym, ap, ◌∙◌, subst, ℕ, zero, suc, ◌≤◌, nat_lt, not, Bool, true, false, List, [], ◌∷◌, length, map, drop, Result, Ok, Err, list_all, and_parts, ltb-true, lt-ltb, Held, are_distinct, slot_count, FileRecord, Taxonomy, Among, marked, length-marked, data_start, all_among, and_from, all_from, ◌==◌, ◌&&◌, ◌||◌, ◌/◌, ◌*◌, Limits, cond, ◌+◌, ◌⊎◌, inl, inr, IsTrue, are_stored}
 use Rattle.lis_model.specs.Ranges.{most_blocks}
 use Rattle.lis_model.proofs.Stored.{stored_parts}
 use Rattle.std.proofs.lemmas.Bool.{cond-true, cond-false, eq-eqb, ltb-false, leb-false, and_from}
@@ -349,9 +349,9 @@ module _ (k p : Metadata) (t : Taxonomy) (is : p ≡ k) (held : AreHeld p t) (jo
       gives k p t rec journal m blocks taken marks is held are_taken are_marks
       (λ small. absurd (let e : true ≡ false = sym large ∙ (ap is_large s ∙ small) in cc))
       (λ kept fits.
-          told kept fits
-          ∙ (ap₂ (λ v b. file_blocks v b numbers size (looked journal.staged kept)) v b
-          ∙ ap₂ (λ ns n. file_blocks p.limits.version (data_start p.limits) ns n (looked journal.staged kept)) n s))
+      told kept fits
+      ∙ (ap₂ (λ v b. file_blocks v b numbers size (looked journal.staged kept)) v b
+      ∙ ap₂ (λ ns n. file_blocks p.limits.version (data_start p.limits) ns n (looked journal.staged kept)) n s))
 
 -- and that of one without
 pub small_gives : (k p : Metadata) (t : Taxonomy) (rec : FileRecord) (journal : Held) (m : Meaning) (numbers : List ℕ) (taken marks : List Bool) → p ≡ k → AreHeld p t → numbers ≡ rec.blocks
