@@ -4,7 +4,7 @@ use Rattle.std.proofs.lemmas.Bool.{le-ltb, le-leb, leb-true}
 use Rattle.std.proofs.lemmas.List.{map-append}
 use Rattle.std.proofs.lemmas.List.Elements.{filter-append}
 use Rattle.std.proofs.lemmas.List.Sums.{fold-append}
-use Rattle.lis_kept.proofs.Common.{◌≡◌, ◌⊎◌, ℕ, zero, suc, ◌+◌, ◌*◌, ◌/◌, ◌<◌, ◌≤◌, nat_lt, Bool, true, false, cond, List, [], ◌∷◌, ◌++◌, length, set, map, IsTrue, refl, sym, ap, ◌∙◌, subst, inl, inr, cases_lt, ltb-true, lt-ltb, sum_by-cons, get_or, drop, ◌-◌, cases_eq, get_or-set_same, get_or-set_other, get_or_past, length-set, list_all, all_among, and_parts, and_from, ap₂, ◌&&◌, Among, among_map, map_among, among_filter, filter_among, among_right, Limits, are_stored, bitmap_start, data_start, marked, length-marked, Ext}
+use Rattle.lis_kept.proofs.Common.{◌≡◌, ◌⊎◌, ℕ, zero, suc, ◌+◌, ◌*◌, ◌<◌, ◌≤◌, nat_lt, Bool, true, false, cond, List, [], ◌∷◌, ◌++◌, length, set, map, refl, sym, ap, ◌∙◌, subst, inl, inr, cases_lt, ltb-true, lt-ltb, sum_by-cons, get_or, drop, ◌-◌, cases_eq, get_or-set_same, get_or-set_other, get_or_past, length-set, list_all, all_among, and_parts, and_from, ap₂, ◌&&◌, Among, among_map, map_among, among_filter, filter_among, Limits, bitmap_start, data_start, marked, length-marked}
 use Rattle.lis_bits.proofs.Numbers.{bytes_same}
 use Rattle.lis_blockmap.specs.Bitmap.{is_taken, bitmap_bytes}
 use Rattle.lis_content.specs.Content.{given}

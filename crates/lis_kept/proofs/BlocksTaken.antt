@@ -1,6 +1,6 @@
 -- Blocks that are taken for a content, or freed.
 use Rattle.std.proofs.Common.{MatchResult, OnOk, OnErr, ap₂, arith, nat_le, min}
-use Rattle.lis_kept.proofs.Common.{rules, ◌≡◌, refl, sym, ap, ◌∙◌, subst, ℕ, zero, suc, ◌<◌, ◌≤◌, nat_lt, not, Bool, true, false, List, [], ◌∷◌, length, map, drop, Result, Ok, Err, list_all, and_parts, ltb-true, lt-ltb, Held, are_distinct, slot_count, FileRecord, Taxonomy, Among, marked, length-marked, data_start, all_among, and_from, all_from, ◌==◌, ◌&&◌, ◌||◌, ◌/◌, ◌*◌, Limits, cond, ◌+◌, ◌⊎◌, inl, inr, IsTrue, are_stored}
+use Rattle.lis_kept.proofs.Common.{rules, ◌≡◌, refl, sym, ap, ◌∙◌, subst, ℕ, zero, suc, ◌≤◌, nat_lt, not, Bool, true, false, List, [], ◌∷◌, length, map, drop, Result, Ok, Err, list_all, and_parts, ltb-true, lt-ltb, Held, are_distinct, slot_count, FileRecord, Taxonomy, Among, marked, length-marked, data_start, all_among, and_from, all_from, ◌==◌, ◌&&◌, ◌||◌, ◌/◌, ◌*◌, Limits, cond, ◌+◌, ◌⊎◌, inl, inr, IsTrue, are_stored}
 use Rattle.lis_model.specs.Ranges.{most_blocks}
 use Rattle.lis_model.proofs.Stored.{stored_parts}
 use Rattle.std.proofs.lemmas.Bool.{cond-true, cond-false, eq-eqb, ltb-false, leb-false, and_from}
@@ -304,16 +304,18 @@ pub slot_within : (k : Metadata) (rec : FileRecord) (base blocks : ℕ) (numbers
     → blocks ≡ image_blocks k.limits → numbers ≡ rec.blocks → are_within base blocks numbers ≡ true
 slot_within k rec base blocks numbers sound from image are = search (rules, within_if_below, are_below, record_parts)
 
-taken_given : (p : Metadata) (t : Taxonomy) (k : Metadata) (numbers : List ℕ) (taken marks : List Bool) → p ≡ k → AreHeld p t → taken ≡ given p.taken numbers → marks ≡ marked p.marks (bitmap_homes p.limits numbers)
-    → AreHeld (record p { taken = taken; marks = marks }) t × Takes numbers taken k (record p { taken = taken; marks = marks })
-taken_given p t k numbers taken marks is held are_taken are_marks =
-    takes k p t numbers taken marks is held (ap length are_taken ∙ length-given p.taken numbers)
+freed_takes : (p : Metadata) (t : Taxonomy) (numbers : List ℕ) (taken marks : List Bool) → AreHeld p t → taken ≡ given p.taken numbers → marks ≡ marked p.marks (bitmap_homes p.limits numbers)
+    → AreHeld (record p { taken = taken; marks = marks }) t × Takes numbers taken p (record p { taken = taken; marks = marks })
+freed_takes p t numbers taken marks held are_taken are_marks =
+    takes p p t numbers taken marks refl held (ap length are_taken ∙ length-given p.taken numbers)
     (λ n apart. ap (λ ts. is_taken ts n) are_taken ∙ given_others p.taken numbers n apart) are_marks
 
+-- memory is still as it must be
 pub given_held : (p : Metadata) (t : Taxonomy) (numbers : List ℕ) (taken marks : List Bool) → AreHeld p t → taken ≡ given p.taken numbers → marks ≡ marked p.marks (bitmap_homes p.limits numbers)
     → AreHeld (record p { taken = taken; marks = marks }) t
-given_held p t numbers taken marks held are_taken are_marks = (taken_given p t p numbers taken marks refl held are_taken are_marks).0
+given_held p t numbers taken marks held are_taken are_marks = (freed_takes p t numbers taken marks held are_taken are_marks).0
 
+-- all blocks of a file are freed
 pub gives : (k p : Metadata) (t : Taxonomy) (rec : FileRecord) (journal : Held) (m : Meaning) (blocks : List ℕ) (taken marks : List Bool) → p ≡ k → AreHeld p t
     → taken ≡ given p.taken blocks → marks ≡ marked p.marks (bitmap_homes p.limits blocks) → (is_large rec.size ≡ false → blocks ≡ rec.blocks)
     → ((kept : ℕ → List ℕ) → Fits journal m kept → blocks ≡ blocks_told p.limits (looked journal.staged kept) rec)
@@ -322,7 +324,7 @@ gives k p t rec journal m blocks taken marks is held are_taken are_marks small t
     let Q : Metadata → Type 0 = λ q. GivesBack rec q (record p { taken = taken; marks = marks }) journal m in
     subst Q is (record {
       blocks = blocks;
-      takes = subst (λ (ts : List Bool). Takes blocks ts p (record p { taken = taken; marks = marks })) are_taken (taken_given p t p blocks taken marks refl held are_taken are_marks).1;
+      takes = subst (λ (ts : List Bool). Takes blocks ts p (record p { taken = taken; marks = marks })) are_taken (freed_takes p t blocks taken marks held are_taken are_marks).1;
       small = small;
       told = told;
     })
@@ -332,7 +334,7 @@ pub on_ok : {T E A B : Type 0} (r : Result T E) → (A → B) → OnOk r A → O
 on_ok (Ok x) f a = f a
 on_ok (Err e) f a = a
 
--- what the freeing of a file with index blocks says
+-- of a file with index blocks, by what their reading says
 module _ (k p : Metadata) (t : Taxonomy) (is : p ≡ k) (held : AreHeld p t) (journal : Held) (m : Meaning) (version base size : ℕ) (numbers : List ℕ) (taken marks : List Bool) where
   abbrev pub Freed : Type 0
   Freed = (blocks : List ℕ) × (taken ≡ given p.taken blocks) × (marks ≡ marked p.marks (bitmap_homes p.limits blocks))
@@ -349,11 +351,11 @@ module _ (k p : Metadata) (t : Taxonomy) (is : p ≡ k) (held : AreHeld p t) (jo
       gives k p t rec journal m blocks taken marks is held are_taken are_marks
       (λ small. absurd (let e : true ≡ false = sym large ∙ (ap is_large s ∙ small) in cc))
       (λ kept fits.
-          told kept fits
-          ∙ (ap₂ (λ v b. file_blocks v b numbers size (looked journal.staged kept)) v b
-          ∙ ap₂ (λ ns n. file_blocks p.limits.version (data_start p.limits) ns n (looked journal.staged kept)) n s))
+      told kept fits
+      ∙ (ap₂ (λ v b. file_blocks v b numbers size (looked journal.staged kept)) v b
+      ∙ ap₂ (λ ns n. file_blocks p.limits.version (data_start p.limits) ns n (looked journal.staged kept)) n s))
 
--- and that of one without
+-- of a file without
 pub small_gives : (k p : Metadata) (t : Taxonomy) (rec : FileRecord) (journal : Held) (m : Meaning) (numbers : List ℕ) (taken marks : List Bool) → p ≡ k → AreHeld p t → numbers ≡ rec.blocks
     → is_large rec.size ≡ false → taken ≡ given p.taken numbers → marks ≡ marked p.marks (bitmap_homes p.limits numbers)
     → GivesBack rec k (record p { taken = taken; marks = marks }) journal m

@@ -1,5 +1,5 @@
 use Rattle.std.proofs.Common.{arith, get_or}
-use Rattle.lis_kept.proofs.Common.{◌≡◌, ◌+◌, ◌/◌, Bool, List, ◌∙◌, sym, ap, subst, drop, set, true, length, marked}
+use Rattle.lis_kept.proofs.Common.{◌≡◌, ◌+◌, ◌/◌, Bool, List, ◌∙◌, sym, ap, subst, drop, set, true, marked}
 use Rattle.lis_kept.specs.Changes.{bitmap_homes}
 use Rattle.lis_kept.proofs.BitmapMarks.{marks_one, marks_none, as_many}
 use Rattle.lis_kept.proofs.changes.blocks.mark_bits.Goals.{then-n-limits, else-n-limits}

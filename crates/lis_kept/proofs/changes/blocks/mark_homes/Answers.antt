@@ -1,5 +1,5 @@
 use Rattle.std.proofs.Common.{arith, get_or}
-use Rattle.lis_kept.proofs.Common.{◌≡◌, ◌+◌, ◌-◌, ◌/◌, Bool, List, ◌∙◌, sym, ap₂, subst, drop, set, true, map, length, marked}
+use Rattle.lis_kept.proofs.Common.{◌≡◌, ◌+◌, ◌-◌, ◌/◌, Bool, List, ◌∙◌, sym, ap₂, subst, drop, set, true, map, marked}
 use Rattle.lis_kept.proofs.BitmapMarks.{home_at, marks_home, bitmap_home_of, as_many}
 use Rattle.lis_kept.proofs.changes.blocks.mark_homes.Goals as goal
 

@@ -56,9 +56,9 @@ returns-then-is_large-clause-gives g c =
     let is = c.laid_by-laid.ensures in
     let large : is_large laid.size ≡ true = ap is_large (is.size ∙ sym (ap (λ (r : FileRecord). r.size) c.rec-2.view_is)) ∙ (sym c.is_large.ensures ∙ c.if-is_large.true) in
     on_ok c.free_large.result (λ freed rec there.
-        let same = same_record (the_view c.self.inside) c.args.self.now c.args.slot c.in-Some.rec.now rec c.self.view_is c.in-Some.ensures there in
-        freed_gives c.args.self.now (the_view c.self.inside) c.self.inside.taxonomy c.self.view_is c.self.invariant c.args.journal.now (g.D.Disk.meaning c.args.disk.now) laid.version laid.base laid.size
-        laid.blocks.now c.free_large.new.map c.free_large.new.marks rec is.version is.base (is.blocks ∙ ap (λ (r : FileRecord). r.blocks) same) (is.size ∙ ap (λ (r : FileRecord). r.size) same) large freed)
+    let same = same_record (the_view c.self.inside) c.args.self.now c.args.slot c.in-Some.rec.now rec c.self.view_is c.in-Some.ensures there in
+    freed_gives c.args.self.now (the_view c.self.inside) c.self.inside.taxonomy c.self.view_is c.self.invariant c.args.journal.now (g.D.Disk.meaning c.args.disk.now) laid.version laid.base laid.size
+    laid.blocks.now c.free_large.new.map c.free_large.new.marks rec is.version is.base (is.blocks ∙ ap (λ (r : FileRecord). r.blocks) same) (is.size ∙ ap (λ (r : FileRecord). r.size) same) large freed)
     c.free_large.ensures.freed
 
 pub invariant_of-self-2 : goal.invariant_of-self-2
