@@ -1,22 +1,23 @@
 -- If blocks spell a state, no part fails its check.
 use Rattle.std.proofs.Common.{get_or-drop}
-use Rattle.lis_open.proofs.Common.{rules, ◌≡◌, ◌∙◌, refl, sym, ap, subst, inl, inr, ℕ, ◌+◌, ◌-◌, ◌<◌, ◌≤◌, nat_lt, nat_le, Bool, true, false, is_some, List, [], ◌∷◌, length, map, take, drop, get_or, slice_get, Option, Some, None, arith, option_to_list, length-drop, flat_map, ltb-true, leb-true, length-take-le, ⊎_elim, list_all, or-false, cases_lt, length-replicate, slice_get_within, get_or_from_slice_get, same_Some, Among, among_from_contains, contains_from_among, among_left, map_among, among_flat_map, block, Slots, has_bit, are_distinct, FileRecord, prop_bytes, is_prop, axiom_bytes, is_axiom, file_bytes, is_file, PropSlot, FreeProp, AxiomSlot, FreeAxiom, Pair, FileSlot, FreeFile, Used, prop_once, axiom_once, word_cmp, is_plain_word, head_bytes, among_from_has_word, among_set_of, Limits, Spot, Super, BadRecord, Property, Axiom, Word, Row, bitmap_start, State, description, known, is_nameable, is_assignable, property_slots, axiom_slots, file_slots, blocks_told, among_from_number, placed_at, among_place, Contents, AreSlots, word_in, words_in, word_at, all_records, spelled_state, one_array, AllApart, and_parts, both_ways, get_or_past, slice_get-get_or, flat_map_among, replayed, has_number, has_word, has_word_from_among, set_of_among, all_among, Bitmap, set_of, File, pair_cmp, has_from_among, file_of_record, are_stored, IsTrue}
+use Rattle.lis_open.proofs.Common.{rules, ◌≡◌, ◌∙◌, refl, sym, ap, subst, inl, inr, ℕ, ◌+◌, ◌-◌, ◌*◌, ◌/◌, ◌<◌, ◌≤◌, nat_lt, nat_le, Bool, true, false, is_some, List, [], ◌∷◌, length, map, take, drop, get_or, slice_get, Option, Some, None, arith, option_to_list, length-drop, flat_map, ltb-true, leb-true, length-take-le, ⊎_elim, list_all, or-false, cases_lt, length-replicate, slice_get_within, get_or_from_slice_get, same_Some, Among, among_from_contains, contains_from_among, among_left, map_among, among_flat_map, block, Slots, marked, replicate, are_distinct, FileRecord, prop_bytes, is_prop, axiom_bytes, is_axiom, file_bytes, is_file, PropSlot, FreeProp, AxiomSlot, FreeAxiom, Pair, FileSlot, FreeFile, Used, prop_once, axiom_once, word_cmp, is_plain_word, head_bytes, among_from_has_word, among_set_of, Limits, Spot, Super, BadRecord, Property, Axiom, Word, Row, State, description, known, is_nameable, is_assignable, property_slots, axiom_slots, file_slots, blocks_told, among_from_number, placed_at, among_place, Contents, AreSlots, word_in, words_in, word_at, all_records, spelled_state, one_array, AllApart, and_parts, both_ways, get_or_past, slice_get-get_or, flat_map_among, replayed, has_number, has_word, has_word_from_among, set_of_among, all_among, Bitmap, set_of, File, pair_cmp, has_from_among, file_of_record, are_stored, IsTrue}
 use Rattle.lis_open.proofs.AxiomsRead.{axiom_fault_by}
 use Rattle.lis_open.proofs.SpotKinds.{behind}
 use Rattle.std.proofs.lemmas.List.{length-map}
 use Rattle.lis_graph.proofs.Members.{among_with_more, with_more_new}
-use Rattle.lis_blockmap.proofs.Laws.{has_bit-bitmap_bytes}
+use Rattle.lis_open.proofs.BitmapRead.{bit_spelled}
 use Rattle.lis_fields.proofs.OneSpelling.{file_once}
 use Rattle.lis_laws.proofs.Members.{word_order, word_exact, pair_order, pair_exact}
 use Rattle.lis_laws.proofs.Chains.{heads_of_valued, entails_within}
 use Rattle.lis_laws.proofs.Sources.{known_from, described_known, rights_are, assigned_are}
 use Rattle.lis_laws.proofs.Sources.Source.{LeftHead}
 use Rattle.lis_model.specs.declared.spot.Spot.TheVariants.{File as FileSpot}
+use Rattle.lis_model.specs.Image.{bitmap_blocks}
 use Rattle.lis_kept.proofs.Formed.{some_word}
 use Rattle.lis_kept.proofs.InArea.{rows_counted}
 use Rattle.lis_store.specs.Stands.{pair_in, pairs_in, is_named_axiom, is_free_axiom, records_in, all_blocks, Spells, Stands}
 use Rattle.lis_store.proofs.SlotOrder.{flat_map-flat_map}
-use Rattle.lis_open.specs.Checks.{IsFile, AreContents, IsUsed, axioms_by, PropertyFails, AxiomFault, HasAxiomFault, AxiomFails, FileFault, HasFileFault, FileFails, WordFails, BitFails, RowFault, Fails, FailsReplayed, RecordFails, FailsIn}
+use Rattle.lis_open.specs.Checks.{IsFile, AreContents, IsUsed, has_bitmap_bit, axioms_by, PropertyFails, AxiomFault, HasAxiomFault, AxiomFails, FileFault, HasFileFault, FileFails, WordFails, BitFails, RowFault, Fails, FailsReplayed, RecordFails, FailsIn}
 use Rattle.lis_open.specs.Checks.AxiomFault.{PastLast, LeftUnnumbered, RightUnnumbered, RightNotPlain, RightUndeclared, LeftUnnameable, HeadUnnumbered, PairThere, Circle}
 use Rattle.lis_open.specs.Checks.FileFault.{NameTaken, TagUnnumbered, TagUnassignable, BlockMissing, IndexUnformed, BlockTwice, BlockTaken, WordUnnumbered, TooManyWords}
 use Rattle.lis_open.proofs.FilesRead.{file_fault_by}
@@ -291,8 +292,10 @@ module _ (limits : Limits) (contents : Contents) (at : ℕ → List ℕ) (range 
       let place = record_place found.0 found.1 in
       record { slot = place.0; rec = found.0; is = place.1; has = has_from_among (blocks_told limits at found.0) n found.2 }
 
-  bit_is : (n : ℕ) → n < 32768 → has_bit (at (bitmap_start limits)) n ≡ has_number (all_blocks limits at records) n
-  bit_is n lt = search (rules, has_bit-bitmap_bytes, is_taken-marked, length-replicate, nothing_at, or-false)
+  bit_is : (n : ℕ) → n < 32768 * bitmap_blocks limits → has_bitmap_bit limits at n ≡ has_number (all_blocks limits at records) n
+  bit_is n lt =
+      bit_spelled limits at (marked (replicate limits.blocks false) (all_blocks limits at records)) n (spells.bitmap (n / 32768) (omega (arith, lt)))
+      ∙ search (rules, is_taken-marked, length-replicate, nothing_at, or-false)
 
   no_bit : (n : ℕ) → BitFails limits at n → ⊥
   no_bit n fails =
