@@ -1,5 +1,5 @@
 -- A block that is read as its part of the bytes of a file.
-use Rattle.std.proofs.Common.{◌≡◌, ◌⊎◌, inl, inr, ℕ, ◌+◌, ◌-◌, ◌*◌, ◌<◌, ◌≤◌, min, List, [], ◌∷◌, ◌++◌, length, take, drop, get_or, Bool, true, false, cond, refl, sym, ap, subst, ◌∙◌, arith, length-append, length-take, append-nil}
+use Rattle.std.proofs.Common.{◌≡◌, ◌⊎◌, inl, inr, ℕ, ◌+◌, ◌-◌, ◌*◌, ◌<◌, ◌≤◌, min, List, [], ◌∷◌, ◌++◌, length, take, drop, get_or, Bool, true, false, refl, sym, ap, subst, ◌∙◌, arith, length-append, length-take, append-nil}
 use Rattle.std.specs.List.{flat_map}
 use Rattle.std.proofs.Math.ListN.{drop_of_length-le}
 use Rattle.std.proofs.Math.Seq.{take-add, take-append-add}
@@ -10,7 +10,7 @@ use Rattle.lis_ports.specs.Bytes.{Torn, part, put}
 use Rattle.lis_ports.proofs.Parts.{part-put, put_between, torn-put}
 use Rattle.lis_model.specs.State.{blocks_needed}
 use Rattle.lis_content.specs.Large.{content_blocks, file_blocks, is_large, slot_count}
-use Rattle.lis_content.proofs.Indexes.{large_blocks, large_numbers, length-numbers_in, small_blocks, small_numbers}
+use Rattle.lis_content.proofs.Indexes.{large_blocks, large_numbers, length-numbers_of, small_blocks, small_numbers, small_slot}
 use Rattle.lis_content.proofs.Reading.{IsFilled}
 
 -- a prefix of a prefix, whichever is longer
@@ -103,17 +103,17 @@ filled_front at ns k size buf was =
     ∙ (ap (take size) (take-append-add done rest 0 ∙ append-nil done) ∙ sym was.front)))
 
 -- ---- the blocks of the content among all blocks
-pub content_first : (base : ℕ) (slot : List ℕ) (size : ℕ) (at : ℕ → List ℕ) → length slot ≡ slot_count size
-    → take (blocks_needed size) (file_blocks base slot size at) ≡ content_blocks base slot size at
-content_first base slot size at count = by (is_large size) refl
+pub content_first : (version base : ℕ) (slot : List ℕ) (size : ℕ) (at : ℕ → List ℕ) → length slot ≡ slot_count size
+    → take (blocks_needed size) (file_blocks version base slot size at) ≡ content_blocks version base slot size at
+content_first version base slot size at count = by (is_large size) refl
   where
     needed : ℕ
     needed = blocks_needed size
 
-    by : (t : Bool) → is_large size ≡ t → take needed (file_blocks base slot size at) ≡ content_blocks base slot size at
+    by : (t : Bool) → is_large size ≡ t → take needed (file_blocks version base slot size at) ≡ content_blocks version base slot size at
     by true large =
-        ap (take needed) (large_blocks base slot size at large)
-        ∙ (take_at _ slot needed (length-numbers_in needed _) ∙ sym (large_numbers base slot size at large))
+        ap (take needed) (large_blocks version base slot size at large)
+        ∙ (take_at _ slot needed (length-numbers_of version base slot needed at) ∙ sym (large_numbers version base slot size at large))
     by false small =
-        let as_many : length slot ≡ needed = count ∙ ap (λ t. cond t 1 needed) small in
-        ap (take needed) (small_blocks base slot size at small) ∙ (take_all needed slot (omega (arith, as_many)) ∙ sym (small_numbers base slot size at small))
+        let as_many : length slot ≡ needed = count ∙ small_slot size small in
+        ap (take needed) (small_blocks version base slot size at small) ∙ (take_all needed slot (omega (arith, as_many)) ∙ sym (small_numbers version base slot size at small))
