@@ -1,5 +1,5 @@
 -- The bitmap as it is read, a block at a time.
-use Rattle.lis_open.proofs.Common.{◌≡◌, ◌∙◌, sym, ap, ap₂, subst, inl, inr, ℕ, ◌+◌, ◌*◌, ◌<◌, ◌/◌, Bool, List, arith, cases_lt, has_bit, is_taken, Limits, bitmap_start}
+use Rattle.lis_open.proofs.Common.{◌≡◌, ◌∙◌, sym, ap, ap₂, subst, inl, inr, ℕ, ◌+◌, ◌*◌, ◌<◌, ◌/◌, Bool, List, arith, below_more, cases_lt, has_bit, is_taken, Limits, bitmap_start}
 use Rattle.std.proofs.Common.{◌%◌}
 use Rattle.lis_blockmap.specs.Bitmap.{IsFirstDifference, bitmap_bytes}
 use Rattle.lis_blockmap.proofs.Laws.{has_bit-bitmap_bytes}

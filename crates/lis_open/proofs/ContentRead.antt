@@ -84,7 +84,7 @@ content_of_told limits rec kept base count blocks part from needed range form is
     (is
     ∙ (ap (λ n. take n blocks) needed
     ∙ (ap (take (blocks_needed rec.size)) told
-    ∙ content_first (data_start limits) rec.blocks rec.size kept (slot_of_form limits rec rec.blocks range form refl refl))))
+    ∙ content_first limits.version (data_start limits) rec.blocks rec.size kept (slot_of_form limits rec range form))))
 
 pub told_words : (limits : Limits) (rec : FileRecord) (kept : ℕ → List ℕ) (base size : ℕ) (part name bytes : List ℕ) → name ≡ rec.name → size ≡ rec.size
     → content base part rec.size kept ≡ bytes_told limits kept rec → HaveWordsOf name (content base part size kept) bytes → HaveWordsOf rec.name (bytes_told limits kept rec) bytes

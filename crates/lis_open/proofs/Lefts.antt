@@ -7,7 +7,7 @@ use Rattle.std.proofs.lemmas.Bool.Decides.{nat_tests}
 use Rattle.lis_bits.proofs.Numbers.{bytes_none}
 use Rattle.lis_ext.specs.Ext.{Ext}
 use Rattle.lis_fields.proofs.Widths.{zeros_pass, zeros_of}
-use Rattle.lis_model.specs.Image.{rows_start}
+use Rattle.lis_model.specs.Image.{descriptions_start}
 use Rattle.lis_open.specs.ReadAll.{IsRowSpelled, IsFirstRow, row_place, is_stray}
 use Rattle.lis_kept.specs.Rows.{row_bytes}
 use Rattle.std.proofs.Math.Bool.{or-true, or_assoc}
@@ -32,7 +32,7 @@ pub zeros_decide : (e : Ext) (files number : ℕ) (bytes : List ℕ) (all : Bool
 zeros_decide e files number bytes all count width none is = search (rules, zeros_of, no_file_has, zeros_pass)
 
 -- ---- rows as they are read
-pub row_read : (limits : Limits) (kept : ℕ → List ℕ) (ext : Ext) (p first width : ℕ) (buf : List ℕ) (same : Bool) → first ≡ rows_start limits → width ≡ limits.files / 8
+pub row_read : (limits : Limits) (kept : ℕ → List ℕ) (ext : Ext) (p first width : ℕ) (buf : List ℕ) (same : Bool) → first ≡ descriptions_start limits → width ≡ limits.files / 8
     → ((count : ℕ) → buf ≡ slot (record { first = first; count = count; width = width }) kept p) → (IsTrue same ↔ (buf ≡ row_bytes ext p)) → IsTrue same ↔ IsRowSpelled limits kept ext p
 row_read limits kept ext p first width buf same start wide read test =
     let there : slot (row_slots limits) kept p ≡ buf =
