@@ -1,6 +1,6 @@
 -- The blocks of a file as they are read: those that its slot lists, and those that its index blocks list.
 use Rattle.std.proofs.Common.{rules}
-use Rattle.lis_open.proofs.Common.{◌∙◌, ℕ, List, IsTrue, ◌≡◌, refl, sym, ap, ◌^◌, ◌<◌, ◌≤◌, ◌&&◌, Bool, Option, Some, [], arith, IfSome, true, false, length, Meaning, IsSettled, Held, Fits, Slots, slot, PropSlot, FileSlot, prop_once, Limits, are_stored, image_blocks, few_properties, list_all-append, are_free, are_distinct, FileRecord, is_record, blocks_told, HasIndex, and_parts, both_ways}
+use Rattle.lis_open.proofs.Common.{◌∙◌, ℕ, List, IsTrue, ◌≡◌, refl, sym, ap, ◌^◌, ◌<◌, ◌≤◌, ◌&&◌, Bool, Option, Some, [], arith, IfSome, subst, true, false, length, data_start, Meaning, IsSettled, Held, Fits, Slots, slot, PropSlot, FileSlot, prop_once, Limits, are_stored, image_blocks, few_properties, list_all-append, are_free, are_distinct, FileRecord, is_record, blocks_told, HasIndex, and_parts, both_ways}
 use Rattle.lis_journal.proofs.Fitting.{fits_unchanged}
 use Rattle.lis_open.specs.declared.blocks.LastBlock.{LastBlock}
 use Rattle.lis_ports.specs.Calls.{OnlyReads}
@@ -10,7 +10,7 @@ use Rattle.lis_journal.specs.Phases.{looked}
 use Rattle.lis_fields.proofs.OneSpelling.{file_once}
 use Rattle.lis_kept.proofs.InArea.{few_files, few_blocks as few_data}
 use Rattle.lis_open.specs.Checks.{IsProperty, IsFile}
-use Rattle.lis_content.specs.Large.{slot_count, file_blocks}
+use Rattle.lis_content.specs.Large.{slot_count, file_blocks, IsIndexed}
 use Rattle.lis_content.proofs.Indexes.{large_blocks, small_blocks}
 use Rattle.lis_fields.proofs.Parts.{record_tests, few_blocks as few_in_form, size_fits}
 use Rattle.lis_kept.proofs.Contents.{slot_blocks_counted}
@@ -70,12 +70,28 @@ module _ (limits : Limits) (at : ℕ → List ℕ) (taken : List Bool) (rec : Fi
   not_own slot same taken_one has = search (rules, both_ways, slot_free)
 
   -- what all blocks of a file are, if each index block was tested as it was read
-  pub its_blocks : (formed : Bool) (blocks : List ℕ) → (formed ≡ true → HasIndex limits at rec) → (formed ≡ false → HasIndex limits at rec → ⊥) → blocks ≡ blocks_told limits at rec
-      → AreItsBlocks limits at taken rec blocks (formed && are_free taken blocks && are_distinct blocks)
+  its_blocks : (formed : Bool) (blocks : List ℕ) → (formed ≡ true → HasIndex limits at rec) → (formed ≡ false → HasIndex limits at rec → ⊥) → blocks ≡ blocks_told limits at rec
+      → AreItsBlocks limits at taken rec blocks ((formed && are_free taken blocks) && are_distinct blocks)
   its_blocks formed blocks good bad told = by formed (are_free taken blocks) (are_distinct blocks) refl refl refl
     where
-      by : (is all_free all_distinct : Bool) → formed ≡ is → are_free taken blocks ≡ all_free → are_distinct blocks ≡ all_distinct → AreItsBlocks limits at taken rec blocks (is && all_free && all_distinct)
+      by : (is all_free all_distinct : Bool) → formed ≡ is → are_free taken blocks ≡ all_free → are_distinct blocks ≡ all_distinct → AreItsBlocks limits at taken rec blocks ((is && all_free) && all_distinct)
       by false all_free all_distinct is free distinct = λ has. bad is has.indexed
       by true false all_distinct is free distinct = λ has. both_ways (are_free taken blocks) free (ap (are_free taken) told ∙ has.free)
       by true true false is free distinct = λ has. both_ways (are_distinct blocks) distinct (ap are_distinct told ∙ has.distinct)
       by true true true is free distinct = (good is, told)
+
+  -- and they were read as the record says, with nothing staged
+  pub read_are : (version base : ℕ) (slot : List ℕ) (size : ℕ) (staged : List HomeBlock) (formed : Bool) (blocks : List ℕ) → version ≡ limits.version → base ≡ data_start limits → slot ≡ rec.blocks → size ≡ rec.size → staged ≡ []
+      → (formed ≡ true → IsIndexed version base slot size (looked staged at)) → (formed ≡ false → IsIndexed version base slot size (looked staged at) → ⊥) → blocks ≡ file_blocks version base slot size (looked staged at)
+      → AreItsBlocks limits at taken rec blocks ((formed && are_free taken blocks) && are_distinct blocks)
+  read_are version base slot size staged formed blocks is_version is_base is_slot is_size none good bad told =
+      its_blocks formed blocks (λ is. subst Indexed same (good is)) (λ is has. bad is (subst Indexed (sym same) has)) (told ∙ ap (λ p. file_blocks p.0 p.1 p.2 p.3 (looked p.4 at)) same)
+    where
+      Parts : Type 0
+      Parts = ℕ × ℕ × List ℕ × ℕ × List HomeBlock
+
+      Indexed : Parts → Type 0
+      Indexed p = IsIndexed p.0 p.1 p.2 p.3 (looked p.4 at)
+
+      same : ◌≡◌ {A = Parts} (version, base, slot, size, staged) (limits.version, data_start limits, rec.blocks, rec.size, [])
+      same = cc

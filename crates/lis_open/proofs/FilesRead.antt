@@ -246,7 +246,7 @@ used_slot (Some r) rec is = cc
 all_or_not : (P : ℕ → Type 0) → ((n : ℕ) → P n ⊎ (P n → ⊥)) → (end : ℕ) → ((n : ℕ) → n < end → P n) ⊎ (((n : ℕ) → n < end → P n) → ⊥)
 all_or_not P each zero = inl (λ n lt. absurd (omega (arith, lt)))
 all_or_not P each (suc end) = elim (all_or_not P each end) [
-  | inl below ↦ elim (each end) [ inl here ↦ inl (below_more P end below here) | inr not_here ↦ inr (λ all. not_here (all end (omega arith))) ]
+  | inl below ↦ elim (each end) [ inl here ↦ inl (λ n lt. below_more P end below here n (omega (arith, lt))) | inr not_here ↦ inr (λ all. not_here (all end (omega arith))) ]
   | inr not_below ↦ inr (λ all. not_below (λ n lt. all n (omega (arith, lt))))
 ]
 

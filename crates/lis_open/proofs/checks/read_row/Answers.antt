@@ -1,12 +1,17 @@
 use Rattle.lis_open.proofs.Common.{rules, arith, length-take-le}
 use Rattle.lis_kept.proofs.InArea.{few_files}
 use Rattle.lis_open.proofs.BlocksRead.{few_blocks}
-use Rattle.lis_open.proofs.Lefts.{row_read}
+use Rattle.lis_open.proofs.Lefts.{row_read, row_within}
 use Rattle.lis_open.proofs.checks.read_row.Goals as goal
 use Rattle.lis_kept.proofs.Image.{same_homes, same_blocks}
 
 pub read_slot-requires-clause-home : goal.read_slot-requires-clause-home
 read_slot-requires-clause-home g c = omega (arith, c.descriptions_start.ensures, same_homes c.requires.readable.image)
+
+pub read_slot-requires-clause-within : goal.read_slot-requires-clause-within
+read_slot-requires-clause-within g c =
+    row_within c.args.limits.now c.args.p _ c.descriptions_start.result _ c.requires.readable.range c.requires.p
+    (length-take-le _ _ (let few = few_files c.args.limits.now c.requires.readable.range in omega (arith, few))) c.descriptions_start.ensures (same_blocks c.requires.readable.image)
 
 pub read_slot-requires-clause-few : goal.read_slot-requires-clause-few
 read_slot-requires-clause-few g c = few_blocks c.args.limits.now _ c.requires.readable.range (same_blocks c.requires.readable.image)
