@@ -1,11 +1,10 @@
 -- How many files have a number.
-use Rattle.std.proofs.Common.{◌≡◌, ◌⊎◌, ℕ, zero, suc, ◌+◌, ◌<◌, ◌≤◌, Bool, true, false, not, ◌&&◌, ◌||◌, cond, if◌then◌else◌, nat_lt, List, [], ◌∷◌, length, get_or, set, replicate, filter, count_by, refl, sym, ap, subst, ◌∙◌, inl, inr, arith, ◌++◌, take, get_or-set_same, get_or-set_other}
+use Rattle.std.proofs.Common.{◌≡◌, ◌⊎◌, ℕ, zero, suc, ◌+◌, ◌<◌, ◌≤◌, Bool, true, false, not, ◌&&◌, ◌||◌, cond, if◌then◌else◌, nat_lt, List, [], ◌∷◌, length, get_or, set, filter, count_by, refl, sym, ap, subst, ◌∙◌, inl, inr, arith, ◌++◌, take, get_or-set_same, get_or-set_other}
 use Rattle.std.specs.List.{range_with_len, list_any, All}
 use Rattle.std.proofs.lemmas.Bool.{lt-ltb, cases_lt, cases_eq, and_left}
 use Rattle.std.proofs.lemmas.List.FromFn.{length-range_with_len}
 use Rattle.std.proofs.lemmas.List.{take-append-le, take_all}
 use Rattle.std.proofs.lemmas.List.Sums.{sum_by-cons, sum_by-set, count_by-le-length, length-filter}
-use Rattle.std.proofs.lemmas.List.Folds.{sum_by-replicate}
 use Rattle.std.specs.Ordering.{nat_cmp}
 use Rattle.std.specs.Cmp.{nat_cmp_total}
 use Rattle.lis_graph.proofs.Sets.{same_sets}
@@ -77,9 +76,6 @@ counted_set sets file new p lt = sum_by-set (λ (s : List ℕ). cond (has_number
 
 pub counted_some : (sets : List (List ℕ)) (file p : ℕ) → file < length sets → has_number (get_or sets file []) p ≡ true → 0 < count_of sets p
 counted_some sets file p lt there = let sum = counted_set sets file [] p lt in let sum' = rw there at sum in omega (arith, sum')
-
-pub counted_none : (files p : ℕ) → count_of (replicate files []) p ≡ 0
-counted_none files p = let all = sum_by-replicate (λ (s : List ℕ). cond (has_number s p) 1 0) files [] in omega (arith, all)
 
 pub any_counted : {X : Type 0} (f : X → Bool) (xs : List X) → nat_lt 0 (count_by f xs) ≡ list_any f xs
 any_counted f [] = refl

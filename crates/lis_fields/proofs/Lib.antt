@@ -5,5 +5,6 @@ pub mod Pairs
 pub mod Runs
 pub mod Parts
 pub mod Supers
+pub mod SetNumbers
 pub mod OneSpelling
 mod Examples

@@ -6,7 +6,7 @@ use Rattle.lis_graph.specs.Graph.{is_rising}
 use Rattle.lis_model.specs.Ranges.{are_in_range}
 use Rattle.lis_words.specs.Bytes.{padded}
 use Rattle.lis_fields.specs.Records.{FileRecord}
-use Rattle.lis_fields.specs.Layouts.{zeros, text_bytes, number_width, numbers, is_gate, SpellsSuper, prop_bytes, is_prop, axiom_bytes, is_axiom, file_start, record_bytes, is_record, file_bytes, is_file, are_tags, slot_blocks, are_blocks}
+use Rattle.lis_fields.specs.Layouts.{zeros, text_bytes, number_width, numbers, is_gate, SpellsSuper, prop_bytes, is_prop, axiom_bytes, is_axiom, file_start, record_bytes, is_record, file_bytes, is_file, are_tags, slot_blocks, are_blocks, set_bytes, is_set}
 use Rattle.lis_model.specs.declared.limits.Limits.{Limits}
 use Rattle.lis_fields.specs.declared.slots.PropSlot.{PropSlot}
 use Rattle.lis_fields.specs.declared.slots.PropSlot.TheVariants.{Free as FreeProp, Known, Declared}
@@ -20,6 +20,7 @@ use Rattle.lis_words.proofs.Tests.{property_short}
 use Rattle.lis_fields.proofs.Texts.{name_short}
 use Rattle.lis_fields.proofs.Pairs.{left_number, right_number, axiom_spelled, axiom_fits}
 use Rattle.lis_fields.proofs.Parts.{text_parts, length_start, length_numbers, few_tags, few_blocks, few_numbers, size_fits, gap, record_tests, file_parts, same_record, undeclared_word, declarable_word}
+use Rattle.lis_fields.proofs.SetNumbers.{held_by, set_tests, before_zeros, set_held, fit_held, length_held, same_held}
 use Rattle.lis_fields.proofs.Supers.{super_fits, super_parts, same_super, same_version}
 use Rattle.lis_model.specs.Sets.{are_distinct, fit}
 
@@ -119,3 +120,8 @@ file_once limits FreeFile FreeFile is_a is_b e = refl
 file_once limits FreeFile (Used rec) is_a is_b e = let first : 0 ≡ 1 = ap (λ xs. get_or xs 0 0) e in absurd (omega (arith, first))
 file_once limits (Used rec) FreeFile is_a is_b e = let first : 1 ≡ 0 = ap (λ xs. get_or xs 0 0) e in absurd (omega (arith, first))
 file_once limits (Used rec) (Used other) is_a is_b e = ap Used (record_once limits rec other is_a is_b e)
+
+pub set_once : (a b : List ℕ) → IsTrue (is_set a) → IsTrue (is_set b) → set_bytes a ≡ set_bytes b → a ≡ b
+set_once a b is_a is_b e =
+    let of_a = set_tests a is_a in
+    sym (before_zeros a (128 - length a)) ∙ same_held (held_by a) b (set_tests b is_b) (length_held a of_a.few) (fit_held a of_a.small) (sym (set_held a of_a.few) ∙ e)

@@ -1,8 +1,8 @@
 -- The parts of an image as they are spelled, each whole, and which values they may have. The lowest byte of a number comes first.
 use Rattle.std.specs.Prelude.{◌*◌, ◌≡◌, ℕ, ◌+◌, ◌-◌, ◌^◌, ◌==◌, nat_lt, nat_le, Bool, true, ◌&&◌, ◌||◌, if◌then◌else◌, List, [], ◌∷◌, ◌++◌, length, replicate, codes, IsTrue}
-use Rattle.std.specs.List.{flat_map}
+use Rattle.std.specs.List.{flat_map, list_all}
 use Rattle.std.specs.Ordering.{nat_cmp}
-use Rattle.lis_limits.specs.declared.TheConstants.{BLOCK_LEN, FILE_LEN, MAX_ASSIGNED, MAX_WORD, PROP_LEN, SET_LEN}
+use Rattle.lis_limits.specs.declared.TheConstants.{BLOCK_LEN, FILE_LEN, MAX_ASSIGNED, MAX_DESCRIPTION, MAX_WORD, PROP_LEN, SET_LEN}
 use Rattle.byteorder.specs.Endian.{little_bytes}
 use Rattle.lis_graph.specs.Graph.{is_rising}
 use Rattle.lis_words.specs.Bytes.{padded}
@@ -142,3 +142,7 @@ is_file limits (Used rec) = is_record limits rec
 -- the set of a file, in version 3: the numbers of its words, each plus 1, and zeros
 unfoldable pub set_bytes : List ℕ → List ℕ
 set_bytes ns = padded SET_LEN (flat_map (λ n. little_bytes 4 (n + 1)) ns)
+
+-- what the set of a file may have: at most 128 numbers, strictly rising, each of which plus 1 is one of four bytes
+abbrev pub is_set : List ℕ → Bool
+is_set ns = nat_le (length ns) MAX_DESCRIPTION && list_all (λ n. nat_lt n (2 ^ 32 - 1)) ns && is_rising nat_cmp ns

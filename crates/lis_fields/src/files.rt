@@ -34,7 +34,8 @@ fn slot_blocks(version: u32, size: u32) -> u32
     needed.div_ceil(NUMBERS_PER_INDEX)
 }
 
-fn rise(numbers: &[u32]) -> bool
+/// Whether each number is above the one before it.
+pub(crate) fn rise(numbers: &[u32]) -> bool
     ensures { result ≡ is_rising nat_cmp numbers.now }
 {
     let mut floor = 0;

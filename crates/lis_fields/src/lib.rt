@@ -15,6 +15,6 @@ pub use fields::are_zeros;
 pub use files::{read_file, write_file};
 pub use numbers::{number_width, read_shorts, read_wide, write_shorts, write_wide};
 pub use props::{read_prop, write_prop};
-pub use sets::write_set;
+pub use sets::{read_set, write_set};
 pub use slots::{AxiomSlot, FileRec, FileSlot, PropSlot};
 pub use super_block::{read_super, write_super};

@@ -25,10 +25,6 @@ module _ (v : Seen) (kept : IsView v) (old : Rows) (test : List ℕ → Bool) (a
   passes : get old 0 number ≡ test w.0
   passes = ap (get old 0) (sym numbered) ∙ marked_at v test kept old are w there
 
-  -- a word that is not marked
-  pub no_top : get old 0 number ≡ false → false ≡ is_top (table_of v) test w.0
-  no_top none = rw (sym passes ∙ none)
-
 module _ (v : Seen) (kept : IsView v) (old : Rows) (t : Taxonomy) (tells : TellsEntailment v t) (test : List ℕ → Bool) (are : AreMarked v test old) (w : List ℕ × ℕ) (there : Contains v.words w) (number : ℕ) (numbered : w.1 ≡ number) where
   abbrev is_other : List ℕ → Bool
   is_other q = entails (table_of v) w.0 q && not (same_word q w.0) && test q

@@ -1,6 +1,6 @@
 -- The parts of an image that memory spells, and the blocks that are yet to be written.
 use Rattle.std.specs.Prelude.{◌-◌, ◌≡◌, ℕ, ◌+◌, ◌*◌, ◌/◌, ◌<◌, false, Bool, List, count_by}
-use Rattle.lis_limits.specs.declared.TheConstants.{AXIOMS_PER_BLOCK, AXIOM_LEN, BLOCK_BITS, BLOCK_LEN, FILE_LEN, PROP_LEN}
+use Rattle.lis_limits.specs.declared.TheConstants.{AXIOMS_PER_BLOCK, AXIOM_LEN, BLOCK_BITS, BLOCK_LEN, FILE_LEN, PROP_LEN, SET_LEN}
 use Rattle.lis_slots.specs.Slots.{Slots, slot, home}
 use Rattle.lis_blockmap.specs.Bitmap.{is_taken, bitmap_bytes}
 use Rattle.lis_kept.specs.Rows.{row_bytes}
@@ -29,6 +29,10 @@ file_slots limits = record { first = files_start limits; count = limits.files; w
 -- rows of whole blocks: those past the last number have no bit
 abbrev pub row_slots : Limits → Slots
 row_slots limits = record { first = descriptions_start limits; count = (BLOCK_LEN / (limits.files / 8)) * ((limits.props * limits.files + (BLOCK_BITS - 1)) / BLOCK_BITS); width = limits.files / 8 }
+
+-- the sets of version 3, one for each file slot
+abbrev pub set_slots : Limits → Slots
+set_slots limits = record { first = descriptions_start limits; count = limits.files; width = SET_LEN }
 
 abbrev pub bitmap_slots : Limits → Slots
 bitmap_slots limits = record { first = bitmap_start limits; count = bitmap_blocks limits; width = BLOCK_LEN }

@@ -15,6 +15,8 @@ use Rattle.lis_model.specs.Script.{script, all_items, whole_items}
 use Rattle.lis_model.specs.declared.command.Command.{Command}
 use Rattle.lis_model.specs.declared.command.Command.TheVariants.{Mkdir, Rmdir, Axiom, Unaxiom, Create, Add, Write, Cat, Mv, Rename, Cd, Ls, Way, Stat}
 use Rattle.lis_model.specs.Derived.{derived_words}
+use Rattle.lis_model.specs.declared.limits.Limits.{Limits}
+use Rattle.lis_model.specs.Image.{record_blocks, description_blocks, properties_start, axioms_start, files_start, descriptions_start, bitmap_start, data_start, image_blocks}
 use Rattle.lis_model.specs.Ranges.{are_in_range}
 use Rattle.lis_model.specs.State.{file_limit, blocks_taken}
 use Rattle.lis_model.specs.Step.Item.{Do, Bad}
@@ -294,3 +296,30 @@ a_source = refl
 
 another_case : derived_words (codes "x.C") (codes "int f() {}\n") ≡ codes "ext:C" ∷ codes "size:small" ∷ []
 another_case = refl
+
+-- ---- the parts of an image
+abbrev least : ℕ → Limits
+least version = record { files = 64; props = 64; blocks = 8; version = version }
+
+-- the first blocks of property slots, axiom slots, file slots, the words of the files, the bitmap and the data blocks, and all blocks
+abbrev parts : Limits → List ℕ
+parts limits =
+    properties_start limits ∷ axioms_start limits ∷ files_start limits ∷ descriptions_start limits ∷ bitmap_start limits ∷ data_start limits
+    ∷ image_blocks limits ∷ []
+
+parts_of_2 : parts (least 2) ≡ 578 ∷ 579 ∷ 580 ∷ 584 ∷ 585 ∷ 586 ∷ 594 ∷ []
+unfolding record_blocks description_blocks
+parts_of_2 = refl
+
+parts_of_3 : parts (least 3) ≡ 1098 ∷ 1099 ∷ 1100 ∷ 1104 ∷ 1112 ∷ 1113 ∷ 1121 ∷ []
+unfolding record_blocks description_blocks
+parts_of_3 = refl
+
+largest_of_2 : image_blocks (record { files = 4096; props = 8192; blocks = 32768; version = 2 }) ≡ 34771
+unfolding record_blocks description_blocks
+largest_of_2 = refl
+
+-- its bitmap has 512 blocks
+largest_of_3 : image_blocks (record { files = 262144; props = 1048576; blocks = 16777216; version = 3 }) ≡ 16879170
+unfolding record_blocks description_blocks
+largest_of_3 = refl

@@ -1,5 +1,5 @@
 -- What the first segment of an input adds to its items.
-use Rattle.std.proofs.Common.{◌≡◌, ℕ, ◌≤◌, ◌<◌, nat_lt, Bool, true, false, cond, ◌||◌, Option, Some, None, List, [], ◌∷◌, ◌++◌, length, take, drop, ◌-◌, ◌⊎◌, zero, suc, refl, ap, sym, subst, ◌∙◌, inl, inr, arith, append-nil, length-append}
+use Rattle.std.proofs.Common.{◌≡◌, ℕ, ◌≤◌, nat_lt, Bool, true, false, cond, ◌||◌, Option, Some, None, List, [], ◌∷◌, ◌++◌, length, take, drop, ◌-◌, ◌⊎◌, zero, suc, refl, ap, sym, subst, ◌∙◌, inl, inr, arith, append-nil, length-append}
 use Rattle.std.proofs.lemmas.List.{length-drop}
 use Rattle.std.proofs.Math.Seq.{take-append_seam, drop-append_seam}
 use Rattle.std.proofs.lemmas.List.Folds.{list_any-append}
@@ -164,9 +164,6 @@ after_feed_all (b ∷ text) h = by (is_feed b) h (after_feed_all text)
 
 pub has_feed : (text more : List ℕ) → list_any is_feed (text ++ 10 ∷ more) ≡ true
 has_feed text more = list_any-append is_feed text (10 ∷ more) ∙ or_right (list_any is_feed text) true refl
-
-some_front : (text more : List ℕ) → 0 < length (text ++ 10 ∷ more)
-some_front text more = omega (arith, length-append text (10 ∷ more))
 
 -- a line with its line feed, and nothing that follows it by its words
 pub line_alone : (text more : List ℕ) → IsOneLine text → payload_size text ≡ None

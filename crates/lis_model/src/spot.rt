@@ -17,6 +17,8 @@ pub enum Spot {
     Word(u32),
     /// A bit of the bitmap.
     Bitmap(u32),
-    /// An extension row.
+    /// An extension row, in versions 1 and 2.
     Row(u32),
+    /// The set of a file slot, in version 3.
+    Set(u32),
 }

@@ -8,7 +8,7 @@ use Rattle.lis_journal.specs.Record.{block, bad_record, replayed}
 use Rattle.lis_slots.specs.Slots.{Slots, slot}
 use Rattle.lis_blockmap.specs.Bitmap.{has_bit}
 use Rattle.lis_fields.specs.Records.{FileRecord}
-use Rattle.lis_fields.specs.Layouts.{zeros, prop_bytes, is_prop, axiom_bytes, is_axiom, file_bytes, is_file}
+use Rattle.lis_fields.specs.Layouts.{zeros, prop_bytes, is_prop, axiom_bytes, is_axiom, file_bytes, is_file, set_bytes}
 use Rattle.lis_fields.specs.declared.slots.PropSlot.{PropSlot}
 use Rattle.lis_fields.specs.declared.slots.AxiomSlot.{AxiomSlot}
 use Rattle.lis_fields.specs.declared.slots.AxiomSlot.TheVariants.{Free as FreeAxiom, Pair}
@@ -17,13 +17,13 @@ use Rattle.lis_fields.specs.declared.slots.FileSlot.TheVariants.{Free as FreeFil
 use Rattle.lis_words.specs.Words.{is_plain_word, is_valued, head_bytes, has_word}
 use Rattle.lis_model.specs.declared.limits.Limits.{Limits}
 use Rattle.lis_model.specs.declared.spot.Spot.{Spot}
-use Rattle.lis_model.specs.declared.spot.Spot.TheVariants.{Super, BadRecord, Property, Axiom, File, Word, Bitmap, Row}
+use Rattle.lis_model.specs.declared.spot.Spot.TheVariants.{Super, BadRecord, Property, Axiom, File, Word, Bitmap, Row, Set}
 use Rattle.lis_model.specs.Image.{bitmap_start, bitmap_blocks}
 use Rattle.lis_model.specs.Sets.{set_of, are_distinct, has_number}
 use Rattle.lis_model.specs.State.{Entails, file_words, known, is_assignable, is_nameable, pair_cmp}
-use Rattle.lis_kept.specs.Areas.{property_slots, axiom_slots, file_slots, row_slots}
+use Rattle.lis_kept.specs.Areas.{property_slots, axiom_slots, file_slots, row_slots, set_slots}
 use Rattle.lis_kept.specs.Telling.{blocks_told, HasIndex}
-use Rattle.lis_store.specs.Stands.{Contents, AreSlots, word_in, words_in, word_at, all_declared, pairs_in, file_by, spelled_state, row_bit}
+use Rattle.lis_store.specs.Stands.{Contents, AreSlots, word_in, words_in, word_at, all_declared, pairs_in, file_by, spelled_state, row_bit, set_by}
 use Rattle.lis_open.specs.Opens.{HasSuper}
 use Rattle.lis_kept.specs.Image.{image_layout}
 
@@ -205,9 +205,18 @@ pub data RowFault (limits : Limits) (at : ℕ → List ℕ) (contents : Contents
 -- A row does not show which file's description has its word. Or the rest of the part is not zero, which counts as the row after the last
 -- one.
 pub record RowFails (limits : Limits) (at : ℕ → List ℕ) (n : ℕ) : Type 0 where
+  pub before_third : limits.version ≢ 3
   pub contents : Contents
   pub are : AreContents limits at contents
   pub fault : RowFault limits at contents n
+
+-- A set does not have exactly the numbers of the words of its file's description; that of a free slot is zero.
+pub record SetFails (limits : Limits) (at : ℕ → List ℕ) (n : ℕ) : Type 0 where
+  pub third : limits.version ≡ 3
+  pub below : n < (set_slots limits).count
+  pub contents : Contents
+  pub are : AreContents limits at contents
+  pub wrong : slot (set_slots limits) at n ≢ set_bytes (set_by (spelled_state limits contents at) limits contents at n)
 
 -- the check of a part after the journal fails
 abbrev pub Fails : Limits → (ℕ → List ℕ) → Spot → Type 0
@@ -219,6 +228,7 @@ Fails limits at (File n) = FileFails limits at n
 Fails limits at (Word n) = WordFails limits at n
 Fails limits at (Bitmap n) = BitFails limits at n
 Fails limits at (Row n) = RowFails limits at n
+Fails limits at (Set n) = SetFails limits at n
 
 -- ---- images
 -- the check of a part of the replayed image fails
@@ -246,6 +256,7 @@ FailsIn image (File n) = FailsReplayed image (File n)
 FailsIn image (Word n) = FailsReplayed image (Word n)
 FailsIn image (Bitmap n) = FailsReplayed image (Bitmap n)
 FailsIn image (Row n) = FailsReplayed image (Row n)
+FailsIn image (Set n) = FailsReplayed image (Set n)
 
 -- ---- the order of checks
 -- the kinds of parts, in their order
@@ -258,6 +269,7 @@ rank (File n) = 4
 rank (Word n) = 5
 rank (Bitmap n) = 6
 rank (Row n) = 7
+rank (Set n) = 8
 
 -- the index of a part among those of its kind
 abbrev pub place : Spot → ℕ
@@ -269,6 +281,7 @@ place (File n) = n
 place (Word n) = n
 place (Bitmap n) = n
 place (Row n) = n
+place (Set n) = n
 
 abbrev pub IsBefore : Spot → Spot → Type 0
 IsBefore a b = (rank a < rank b) ⊎ ((rank a ≡ rank b) × (place a < place b))

@@ -1,8 +1,8 @@
 -- When an image represents a state.
-use Rattle.std.specs.Prelude.{◌≡◌, ℕ, ◌+◌, ◌*◌, ◌/◌, ◌<◌, ◌≤◌, nat_lt, Bool, true, false, ◌&&◌, Option, Some, None, is_some, List, [], ◌∷◌, length, map, drop, replicate, slice_get, slice_index_or, IsTrue}
+use Rattle.std.specs.Prelude.{◌≡◌, ◌≢◌, ℕ, ◌+◌, ◌*◌, ◌/◌, ◌<◌, ◌≤◌, nat_lt, Bool, true, false, ◌&&◌, Option, Some, None, is_some, List, [], ◌∷◌, length, map, filter, drop, replicate, slice_get, slice_index_or, IsTrue}
 use Rattle.std.specs.Option.{option_to_list}
 use Rattle.std.specs.BTreeSet.{insert_key}
-use Rattle.std.specs.List.{fold, flat_map, list_all, Contains}
+use Rattle.std.specs.List.{fold, flat_map, list_all, range_with_len, Contains}
 use Rattle.lis_limits.specs.declared.TheConstants.{BLOCK_LEN}
 use Rattle.lis_ports.specs.Bytes.{part}
 use Rattle.lis_journal.specs.Record.{block, replayed}
@@ -17,14 +17,14 @@ use Rattle.lis_fields.specs.declared.slots.AxiomSlot.{AxiomSlot}
 use Rattle.lis_fields.specs.declared.slots.AxiomSlot.TheVariants.{Free as FreeAxiom, Pair}
 use Rattle.lis_fields.specs.declared.slots.FileSlot.{FileSlot}
 use Rattle.lis_fields.specs.declared.slots.FileSlot.TheVariants.{Free as FreeFile, Used}
-use Rattle.lis_fields.specs.Layouts.{SpellsSuper, prop_bytes, is_prop, axiom_bytes, is_axiom, file_bytes, is_file}
+use Rattle.lis_fields.specs.Layouts.{SpellsSuper, prop_bytes, is_prop, axiom_bytes, is_axiom, file_bytes, is_file, set_bytes}
 use Rattle.lis_words.specs.Words.{has_word}
 use Rattle.lis_model.specs.declared.limits.Limits.{Limits}
 use Rattle.lis_model.specs.Image.{bitmap_start, bitmap_blocks, image_blocks}
 use Rattle.lis_model.specs.Ranges.{are_stored}
 use Rattle.lis_model.specs.Sets.{set_of, are_distinct}
 use Rattle.lis_model.specs.State.{State, File, pair_cmp, file_cmp, known, description, WellFormed}
-use Rattle.lis_kept.specs.Areas.{property_slots, axiom_slots, file_slots, row_slots}
+use Rattle.lis_kept.specs.Areas.{property_slots, axiom_slots, file_slots, row_slots, set_slots}
 use Rattle.lis_kept.specs.Telling.{pair_by, bytes_told, blocks_told, HasIndex}
 use Rattle.lis_kept.specs.Image.{image_layout}
 
@@ -110,7 +110,7 @@ spelled_state limits contents at = record {
   files = fold (insert_key file_cmp) [] (map (file_by limits contents.properties at) (all_records contents.files));
 }
 
--- ---- extension rows
+-- ---- extension rows and sets
 abbrev pub is_had_by : State → (FileRecord → File) → Option (List ℕ) → FileSlot → Bool
 is_had_by s file None slot = false
 is_had_by s file (Some word) FreeFile = false
@@ -121,10 +121,14 @@ abbrev pub row_bit : State → Limits → Contents → (ℕ → List ℕ) → �
 row_bit s limits contents at p i =
     is_had_by s (file_by limits contents.properties at) (word_at contents.properties p) (slice_index_or contents.files i FreeFile)
 
+-- the numbers of the words that the description of slot i's file has, in rising order
+abbrev pub set_by : State → Limits → Contents → (ℕ → List ℕ) → ℕ → List ℕ
+set_by s limits contents at i = filter (λ p. row_bit s limits contents at p i) (range_with_len 0 limits.props)
+
 -- By what each block holds, the slots are in their layouts and spell the state, which is well formed. The words of the slots are the known
 -- words, each once. No two axiom slots have one pair, and those past the last number are free. No two files have one name. Index blocks are
--- well formed. No block is used twice, as a data block or as an index block. The bitmap shows exactly the blocks in use, and the rows show
--- exactly which file has which word.
+-- well formed. No block is used twice, as a data block or as an index block. The bitmap shows exactly the blocks in use, and the rows, or in
+-- version 3 the sets, show exactly which file has which word.
 pub record Spells (limits : Limits) (contents : Contents) (at : ℕ → List ℕ) (s : State) : Type 0 where
   pub properties : AreSlots prop_bytes is_prop (property_slots limits) at contents.properties
   pub axioms : AreSlots axiom_bytes is_axiom (axiom_slots limits) at contents.axioms
@@ -143,7 +147,8 @@ pub record Spells (limits : Limits) (contents : Contents) (at : ℕ → List ℕ
   pub each_block_once : IsTrue (are_distinct (all_blocks limits at (all_records contents.files)))
   pub bitmap : (n : ℕ) → n < bitmap_blocks limits
       → at (bitmap_start limits + n) ≡ bitmap_bytes n (marked (replicate limits.blocks false) (all_blocks limits at (all_records contents.files)))
-  pub rows : (p : ℕ) → p < (row_slots limits).count → slot (row_slots limits) at p ≡ bits_bytes (limits.files / 8) (row_bit s limits contents at p)
+  pub rows : limits.version ≢ 3 → (p : ℕ) → p < (row_slots limits).count → slot (row_slots limits) at p ≡ bits_bytes (limits.files / 8) (row_bit s limits contents at p)
+  pub sets : limits.version ≡ 3 → (i : ℕ) → i < (set_slots limits).count → slot (set_slots limits) at i ≡ set_bytes (set_by s limits contents at i)
 
 -- The image has a super block with the state's limits, is as long as these say, and has a replayed image that spells the state. What is
 -- past the image does not count.

@@ -18,6 +18,7 @@ fn write_spot(error: &mut impl Write, spot: &Spot) -> io::Result<()> {
         Spot::Word(slot) => writeln!(error, "unused word in property slot {slot}"),
         Spot::Bitmap(bit) => writeln!(error, "bitmap bit {bit}"),
         Spot::Row(row) => writeln!(error, "extension row {row}"),
+        Spot::Set(slot) => writeln!(error, "set {slot}"),
     }
 }
 
