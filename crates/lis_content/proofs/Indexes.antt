@@ -1,5 +1,5 @@
 -- Numbers in index blocks.
-use Rattle.std.proofs.Common.{◌≡◌, ◌⊎◌, inl, inr, ℕ, zero, suc, ◌+◌, ◌-◌, ◌*◌, ◌/◌, ◌%◌, ◌<◌, ◌≤◌, min, ◌==◌, nat_lt, nat_le, Bool, true, false, cond, if◌then◌else◌, List, [], ◌∷◌, ◌++◌, length, take, drop, get_or, refl, sym, ◌∙◌, ap, ap₂, subst, arith, append_assoc, length-append, length-drop, length-take, length-take-le, take-append-drop, drop-drop, get_or-take}
+use Rattle.std.proofs.Common.{◌≡◌, ◌⊎◌, inl, inr, ℕ, zero, suc, ◌+◌, ◌-◌, ◌*◌, ◌/◌, ◌%◌, ◌<◌, ◌≤◌, ◌==◌, nat_lt, nat_le, Bool, true, false, cond, if◌then◌else◌, List, [], ◌∷◌, ◌++◌, length, take, drop, get_or, refl, sym, ◌∙◌, ap, ap₂, subst, arith, append_assoc, length-append, length-take, length-take-le, take-append-drop, drop-drop, get_or-take}
 use Rattle.std.specs.List.{flat_map, list_all}
 use Rattle.std.proofs.Math.Nat.{mul-suc, mul-zero, mul-add}
 use Rattle.std.proofs.lemmas.Bool.{and_parts, le-ltb, ltb-true, cond-true, cond-false, ltb-false, leb-true, leb-false, cases_lt}
@@ -14,7 +14,7 @@ use Rattle.lis_fields.proofs.NumberLists.{wide, length_wide, read_wide}
 use Rattle.lis_fields.proofs.Widths.{padding_zero, padded_from}
 use Rattle.lis_words.specs.Bytes.{padded}
 use Rattle.lis_content.specs.Content.{content}
-use Rattle.lis_content.specs.Large.{is_large, slot_count, index_bytes, index_count, number_at, numbers_in, number_of, numbers_of, index_home, content_blocks, file_content, file_blocks}
+use Rattle.lis_content.specs.Large.{is_large, slot_count, index_bytes, number_at, numbers_in, number_of, numbers_of, index_home, content_blocks, file_content, file_blocks}
 
 pub length-numbers_in : (version count : ℕ) (bytes : List ℕ) → length (numbers_in version count bytes) ≡ count
 unfolding numbers_in
@@ -47,6 +47,9 @@ spelled_reads_back : (version : ℕ) (ns rest : List ℕ) → fit (number_width 
 spelled_reads_back version ns rest fits =
     sym (numbers_from version (length ns) (wide (number_width version) ns ++ rest) ns refl (λ k lt. sym (spelled_at (number_width version) ns rest k fits lt)))
 
+pub number_reads_back : (version : ℕ) (ns : List ℕ) (k : ℕ) → fit (number_width version) ns ≡ true → k < length ns → number_at version (index_bytes version ns) k ≡ get_or ns k 0
+number_reads_back version ns k fits lt = spelled_at (number_width version) ns _ k fits lt
+
 pub index_reads_back : (version : ℕ) (ns : List ℕ) → fit (number_width version) ns ≡ true → numbers_in version (length ns) (index_bytes version ns) ≡ ns
 index_reads_back version ns fits = spelled_reads_back version ns _ fits
 
@@ -71,6 +74,10 @@ pub numbers_of_from : (version base : ℕ) (slot : List ℕ) (count : ℕ) (at :
     → ((k : ℕ) → k < count → get_or ns k 0 ≡ number_of version base slot at k) → ns ≡ numbers_of version base slot count at
 unfolding numbers_of
 numbers_of_from version base slot count at ns len each = fill_by_all (number_of version base slot at) ns count 0 len each
+
+pub no_numbers : (version base : ℕ) (slot : List ℕ) (at : ℕ → List ℕ) → numbers_of version base slot 0 at ≡ []
+unfolding numbers_of
+no_numbers version base slot at = refl
 
 -- those of the first blocks, and then those of the next one
 pub numbers_of_more : (version base : ℕ) (slot : List ℕ) (j c : ℕ) (at : ℕ → List ℕ) → c ≤ 1024
@@ -117,7 +124,7 @@ pub numbers_of_same : (version base : ℕ) (slot : List ℕ) (count : ℕ) (at a
     → ((j : ℕ) → 1024 * j < count → after (index_home base slot j) ≡ at (index_home base slot j)) → numbers_of version base slot count after ≡ numbers_of version base slot count at
 numbers_of_same version base slot count at after same =
     numbers_of_from version base slot count at (numbers_of version base slot count after) (length-numbers_of version base slot count after) (λ k lt.
-        number-numbers_of version base slot count k after lt ∙ ap (λ bytes. number_at version bytes (k % 1024)) (same (k / 1024) (omega (arith, lt))))
+    number-numbers_of version base slot count k after lt ∙ ap (λ bytes. number_at version bytes (k % 1024)) (same (k / 1024) (omega (arith, lt))))
 
 -- ---- the two forms of a file
 pub large_numbers : (version base : ℕ) (slot : List ℕ) (size : ℕ) (at : ℕ → List ℕ) → is_large size ≡ true → content_blocks version base slot size at ≡ numbers_of version base slot (blocks_needed size) at
@@ -145,6 +152,14 @@ large_slot size is = cond-true (is_large size) ((blocks_needed size + 1023) / 10
 
 pub small_slot : (size : ℕ) → is_large size ≡ false → slot_count size ≡ blocks_needed size
 small_slot size is = cond-false (is_large size) ((blocks_needed size + 1023) / 1024) (blocks_needed size) is
+
+-- the content has as many blocks as its size takes
+pub length-content_blocks : (version base : ℕ) (slot : List ℕ) (size : ℕ) (at : ℕ → List ℕ) → length slot ≡ slot_count size → length (content_blocks version base slot size at) ≡ blocks_needed size
+length-content_blocks version base slot size at count = by (is_large size) refl
+  where
+    by : (t : Bool) → is_large size ≡ t → length (content_blocks version base slot size at) ≡ blocks_needed size
+    by true large = ap length (large_numbers version base slot size at large) ∙ length-numbers_of version base slot (blocks_needed size) at
+    by false small = ap length (small_numbers version base slot size at small) ∙ (count ∙ small_slot size small)
 
 -- ---- an index block spells the numbers that are read from it, if zeros follow them
 -- 1,024 numbers have room

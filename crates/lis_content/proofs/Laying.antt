@@ -3,10 +3,9 @@ use Rattle.std.proofs.Common.{drop, ◌≡◌, ℕ, zero, suc, ◌+◌, ◌*◌,
 use Rattle.std.specs.List.{flat_map, range_with_len}
 use Rattle.std.proofs.lemmas.Bool.{eqb-false, eq-eqb, ne_eqb, cond-true, cond-false, false≢true}
 use Rattle.std.proofs.lemmas.Grind.{flat_map-append}
-use Rattle.std.proofs.lemmas.List.{append-nil, drop_at, length-take-le, take-append-drop, take_all}
+use Rattle.std.proofs.lemmas.List.{append-nil, length-take-le, take-append-drop, take_all}
 use Rattle.std.proofs.lemmas.List.FromFn.{length-range_with_len}
 use Rattle.std.proofs.lemmas.List.Sums.{fold-append}
-use Rattle.byteorder.specs.Endian.{little_bytes}
 use Rattle.lis_ports.specs.Meaning.{Meaning}
 use Rattle.lis_ports.specs.Runs.{IsDiskRun}
 use Rattle.lis_ports.specs.Calls.{DiskFaultEnds}
@@ -24,11 +23,11 @@ use Rattle.lis_blockmap.specs.Bitmap.{free_count, is_taken}
 use Rattle.lis_words.specs.Bytes.{padded}
 use Rattle.lis_words.proofs.Bytes.{length_padded}
 use Rattle.lis_content.specs.Content.{content, marked, has_home}
-use Rattle.lis_content.specs.Large.{is_large, index_bytes, numbers_in}
+use Rattle.lis_content.specs.Large.{is_large}
 use Rattle.lis_content.specs.Placing.{AreUnstaged, homes_of, Places, Lays, IsLaid, HasFile, IsPlaced, IsTornOff, WritesRow, RowPlaced, RowOf, RowTorn, OnePlaced}
-use Rattle.lis_content.proofs.Numbers.{are_below, below_from_free, free_after, length-marked, number_past, row_new}
+use Rattle.lis_content.proofs.Numbers.{below_from_free, free_after, length-marked, number_past, row_new}
 use Rattle.lis_content.proofs.Taking.{part_more, same_others}
-use Rattle.lis_content.proofs.Indexes.{index_reads_back, large_numbers, large_blocks, small_numbers, small_blocks, taken_with_index}
+use Rattle.lis_content.proofs.Indexes.{small_numbers, small_blocks, small_slot, taken_with_index}
 use Rattle.lis_model.specs.Sets.{has_number}
 
 -- ---- homes of blocks
@@ -277,50 +276,18 @@ laid_done base bytes rest start now_taken before now blocks none was = record {
     empty [] is = refl
     empty (x ∷ xs) is = absurd (omega arith)
 
-pub placed_small : (base : ℕ) (bytes : List ℕ) (start now_taken : List Bool) (before now : Held) {old new : Meaning} (blocks : List ℕ) → length bytes ≤ 1048576 → is_large (length bytes) ≡ false → IsLaid base bytes start now_taken before now old new blocks → IsPlaced base bytes start now_taken before now old new blocks
-placed_small base bytes start now_taken before now blocks few small was = record {
+pub placed_small : (version base : ℕ) (bytes : List ℕ) (start now_taken : List Bool) (before now : Held) {old new : Meaning} (blocks : List ℕ) → is_large (length bytes) ≡ false → IsLaid base bytes start now_taken before now old new blocks → IsPlaced version base bytes start now_taken before now old new blocks
+placed_small version base bytes start now_taken before now blocks small was = record {
   blocks = blocks;
-  lays = lays_as base start now_taken before now blocks _ (HasFile base bytes blocks blocks) (λ at is. record {
-    reads = ap (λ ns. content base ns (length bytes) at) (small_numbers base blocks (length bytes) at small) ∙ is;
+  lays = lays_as base start now_taken before now blocks _ (HasFile version base bytes blocks blocks) (λ at is. record {
+    reads = ap (λ ns. content base ns (length bytes) at) (small_numbers version base blocks (length bytes) at small) ∙ is;
     index = λ large. absurd (false≢true (sym small ∙ large));
-    all = small_blocks base blocks (length bytes) at small;
+    all = small_blocks version base blocks (length bytes) at small;
   }) was.lays;
-  count = was.count ∙ (sym (cond-false (is_large (length bytes)) (blocks_needed (length bytes) + 1) (blocks_needed (length bytes)) small) ∙ taken_with_index (length bytes) few);
-  slot_len = was.count ∙ sym (cond-false (is_large (length bytes)) 1 (blocks_needed (length bytes)) small);
+  count = was.count ∙ (sym (cond-false (is_large (length bytes)) _ (blocks_needed (length bytes)) small) ∙ taken_with_index (length bytes));
+  slot_len = was.count ∙ sym (small_slot (length bytes) small);
   slot_is = sym (cond-false (is_large (length bytes)) (drop (blocks_needed (length bytes)) blocks) blocks small);
 }
-
-pub placed_large : (base : ℕ) (bytes : List ℕ) (start now_taken next_taken : List Bool) (before now next : Held) {old mid new : Meaning} (blocks : List ℕ) (n : ℕ) → length bytes ≤ 1048576 → is_large (length bytes) ≡ true → are_below 65536 blocks ≡ true → IsLaid base bytes start now_taken before now old mid blocks → OnePlaced base (flat_map (little_bytes 2) blocks) now_taken next_taken now next mid new n → IsPlaced base bytes start next_taken before next old new (n ∷ [])
-placed_large base bytes start now_taken next_taken before now next blocks n few large short was one = record {
-  blocks = blocks ++ n ∷ [];
-  lays = lays_more base start now_taken next_taken before now next blocks n 1 (λ at. with_kept (base + n) (padded 4096 spelled) at) _ (HasFile base bytes (n ∷ []) (blocks ++ n ∷ [])) was.lays one (one_keeps (base + n) (padded 4096 spelled)) (λ at new is. record {
-    reads =
-        ap (λ ns. content base ns size (after at)) (large_numbers base (n ∷ []) size (after at) large ∙ numbers at)
-        ∙ (ap (take size) (same_others at (after at) base n blocks (padded 4096 spelled) (λ m. refl) (new n (omega arith) (omega arith))) ∙ is);
-    index = λ is_so. here at ∙ ap index_bytes (sym (numbers at));
-    all = large_blocks base (n ∷ []) size (after at) large ∙ ap (λ ns. ns ++ n ∷ []) (numbers at);
-  });
-  count = length-append blocks (n ∷ []) ∙ (ap (λ k. k + 1) was.count ∙ (sym (cond-true (is_large size) (blocks_needed size + 1) (blocks_needed size) large) ∙ taken_with_index size few));
-  slot_len = sym (cond-true (is_large size) 1 (blocks_needed size) large);
-  slot_is = sym (cond-true (is_large size) (drop (blocks_needed size) (blocks ++ n ∷ [])) (blocks ++ n ∷ []) large ∙ drop_at blocks (n ∷ []) (blocks_needed size) was.count);
-}
-  where
-    size : ℕ
-    size = length bytes
-
-    spelled : List ℕ
-    spelled = flat_map (little_bytes 2) blocks
-
-    after : (ℕ → List ℕ) → ℕ → List ℕ
-    after at = with_kept (base + n) (padded 4096 spelled) at
-
-    here : (at : ℕ → List ℕ) → after at (base + n) ≡ index_bytes blocks
-    here at = cond-true ((base + n) == (base + n)) (padded 4096 spelled) (at (base + n)) (eq-eqb (base + n) (base + n) refl)
-
-    numbers : (at : ℕ → List ℕ) → numbers_in (blocks_needed size) (after at (base + n)) ≡ blocks
-    numbers at =
-        ap (λ b. numbers_in (blocks_needed size) b) (here at)
-        ∙ (ap (λ k. numbers_in k (index_bytes blocks)) (sym was.count) ∙ index_reads_back blocks short)
 
 -- a result that is a fault
 pub failed_as : {T E Q : Type 0} (r : Result T E) (P : T → Type 0) → IsErr r → Q → MatchResult r P (λ _. Q)

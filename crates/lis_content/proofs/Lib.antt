@@ -1,9 +1,11 @@
 pub mod Numbers
 pub mod Indexes
 pub mod Files
+mod IndexesRead
 mod Taking
 mod Rows
 pub mod Laying
+mod Indexing
 pub mod Reading
 pub mod Places
 pub mod Buffers

@@ -6,7 +6,6 @@ use Rattle.std.proofs.lemmas.List.{get_or_past}
 use Rattle.std.proofs.lemmas.List.Sums.{fold-append}
 use Rattle.std.proofs.lemmas.List.Folds.{list_all-append, list_any-append}
 pub use Rattle.lis_journal.proofs.Entries.{neither}
-use Rattle.lis_journal.proofs.Runs.{row_within}
 use Rattle.lis_blockmap.specs.Bitmap.{is_taken}
 use Rattle.lis_content.specs.Content.{given, marked, are_taken, are_free, are_within}
 use Rattle.lis_model.specs.Sets.{are_distinct, has_number}
@@ -90,11 +89,6 @@ row_new m taken ns n (suc count) len distinct free within new =
     let rest = row_new m taken (ns ++ n ∷ []) (n + 1) count len (distinct_more ns n distinct first.0) (free_more taken ns n free (omega (arith, len, within)) first.1) (omega (arith, within))
     (λ k le lt. let was = new k (omega (arith, le)) (omega (arith, lt)) in (number_past ns n k was.0 (omega (arith, le)), was.1)) in
     (ap are_distinct (sym is) ∙ rest.0, ap (are_free taken) (sym is) ∙ rest.1)
-
--- numbers below m, and then those of a row that ends there or before
-pub below_more : (m : ℕ) (ns : List ℕ) (n count : ℕ) → are_below m ns ≡ true → n + count ≤ m → are_below m (ns ++ range_with_len n count) ≡ true
-below_more m ns n count below le =
-    list_all-append (λ k. nat_lt k m) ns (range_with_len n count) ∙ and_from (are_below m ns) (are_below m (range_with_len n count)) below (row_within n count m le)
 
 -- Taken blocks stay taken if another one is freed.
 pub taken_still : (taken : List Bool) (ns : List ℕ) (n : ℕ) → are_taken taken ns ≡ true → has_number ns n ≡ false → are_taken (set taken n false) ns ≡ true

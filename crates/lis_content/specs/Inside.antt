@@ -1,6 +1,6 @@
--- How a `Buffer` keeps its bytes. No public clause cites this module.
-use Rattle.std.specs.Prelude.{◌≡◌, ℕ, ◌≤◌, List, [], length, take, unwrap_or}
-use Rattle.lis_limits.specs.declared.TheConstants.{MAX_LARGE_FILE}
+-- How a `Buffer` keeps its bytes, and what its reads need. No public clause cites this module.
+use Rattle.std.specs.Prelude.{◌≡◌, ℕ, ◌+◌, ◌<◌, ◌≤◌, List, [], length, take, unwrap_or}
+use Rattle.lis_limits.specs.declared.TheConstants.{BLOCK_LEN, MAX_LARGE_FILE}
 use Rattle.lis_region.specs.Region.{Region, get, HasFrame}
 
 -- the bytes of the frame
@@ -16,3 +16,7 @@ pub record IsKept (region : Region ℕ) (frame size : ℕ) : Type 0 where
   pub taken : HasFrame region frame
   pub wide : length (frame_bytes region frame) ≡ MAX_LARGE_FILE
   pub within : size ≤ MAX_LARGE_FILE
+
+-- a block of the image with this number is whole
+abbrev pub IsWhole : ℕ → ℕ → (ℕ → List ℕ) → ℕ → Type 0
+IsWhole base blocks at n = base + n < blocks → length (at (base + n)) ≡ BLOCK_LEN

@@ -7,9 +7,10 @@ ghost use Rattle.lis_journal.specs.Images.{Fits, look, held_in, JournalIsUsable}
 ghost use Rattle.lis_journal.specs.Phases.{looked};
 ghost use Rattle.lis_content.specs.Content.{are_within};
 ghost use Rattle.lis_content.specs.Large.{index_bytes, is_large, slot_count, index_count, number_at, numbers_in, numbers_of, content_blocks, file_blocks, file_content, IsIndexed, HasNumber, MayHaveNumber, block_within};
+ghost use Rattle.lis_content.specs.Inside.{IsWhole};
 ghost use Rattle.lis_journal.specs.Record.{homes_start};
 
-use crate::blocks::{fill, home, read_front};
+use crate::blocks::{home, read_front};
 use arrayvec::ArrayVec;
 use byteorder::{ByteOrder, LittleEndian};
 use lis_fields::{are_zeros, number_width, read_wide};
@@ -131,6 +132,8 @@ fn read_within<D: Disk>(
     requires usable { JournalIsUsable journal.now (D.meaning disk.old) }
     ensures read { OnOk result ((kept : ℕ → List ℕ) → Fits journal.now (D.meaning disk.old) kept
         → buf.new ≡ take (length buf.old) (block_within base journal.now.layout.blocks (looked journal.now.staged kept) number)) }
+    ensures whole { OnOk result ((kept : ℕ → List ℕ) → Fits journal.now (D.meaning disk.old) kept
+        → IsWhole base journal.now.layout.blocks (looked journal.now.staged kept) number) }
     ensures disk { ReadsDisk (D.meaning disk.old) (D.meaning disk.new) result }
     ensures fits { (kept : ℕ → List ℕ) → Fits journal.now (D.meaning disk.old) kept
         → Fits journal.now (D.meaning disk.new) kept }
@@ -163,6 +166,10 @@ fn read_block_by<D: Disk>(
         → HasNumber laid.entry.base laid.entry.blocks.now laid.entry.size n (looked journal.now.staged kept) index.now
         → buf.new ≡ take (length buf.old) (block_within laid.entry.base journal.now.layout.blocks (looked journal.now.staged kept)
         (slice_index (content_blocks laid.entry.version laid.entry.base laid.entry.blocks.now laid.entry.size (looked journal.now.staged kept)) n))) }
+    ensures whole { OnOk result ((kept : ℕ → List ℕ) → Fits journal.now (D.meaning disk.old) kept
+        → HasNumber laid.entry.base laid.entry.blocks.now laid.entry.size n (looked journal.now.staged kept) index.now
+        → IsWhole laid.entry.base journal.now.layout.blocks (looked journal.now.staged kept)
+        (slice_index (content_blocks laid.entry.version laid.entry.base laid.entry.blocks.now laid.entry.size (looked journal.now.staged kept)) n)) }
     ensures disk { ReadsDisk (D.meaning disk.old) (D.meaning disk.new) result }
     ensures fits { (kept : ℕ → List ℕ) → Fits journal.now (D.meaning disk.old) kept
         → Fits journal.now (D.meaning disk.new) kept }
@@ -199,6 +206,48 @@ pub fn read_block<D: Disk>(
     read_block_by(journal, disk, laid, &index, n, buf)
 }
 
+// Reads the n-th block, and before it the index block if that block's number is the first one there.
+fn read_next<D: Disk>(
+    journal: &Journal,
+    disk: &mut D,
+    laid: Laid,
+    index: &mut [u8],
+    n: u32,
+    buf: &mut [u8],
+) -> Result<(), Failed>
+    requires few { laid.size ≤ V3_MAX_FILE }
+    requires count { length laid.blocks.now ≡ slot_count laid.size }
+    requires home { homes_start journal.now.layout ≤ laid.base }
+    requires within { IsTrue (are_within laid.base journal.now.layout.blocks laid.blocks.now) }
+    requires inside { n < blocks_needed laid.size }
+    requires index { length index.old ≡ BLOCK_LEN }
+    requires short { length buf.old ≤ BLOCK_LEN }
+    requires usable { JournalIsUsable journal.now (D.meaning disk.old) }
+    ensures read { OnOk result ((kept : ℕ → List ℕ) → Fits journal.now (D.meaning disk.old) kept
+        → MayHaveNumber laid.entry.base laid.entry.blocks.now laid.entry.size n (looked journal.now.staged kept) index.old
+        → buf.new ≡ take (length buf.old) (block_within laid.entry.base journal.now.layout.blocks (looked journal.now.staged kept)
+        (slice_index (content_blocks laid.entry.version laid.entry.base laid.entry.blocks.now laid.entry.size (looked journal.now.staged kept)) n))) }
+    ensures whole { OnOk result ((kept : ℕ → List ℕ) → Fits journal.now (D.meaning disk.old) kept
+        → MayHaveNumber laid.entry.base laid.entry.blocks.now laid.entry.size n (looked journal.now.staged kept) index.old
+        → IsWhole laid.entry.base journal.now.layout.blocks (looked journal.now.staged kept)
+        (slice_index (content_blocks laid.entry.version laid.entry.base laid.entry.blocks.now laid.entry.size (looked journal.now.staged kept)) n)) }
+    ensures has { OnOk result ((kept : ℕ → List ℕ) → Fits journal.now (D.meaning disk.old) kept
+        → MayHaveNumber laid.entry.base laid.entry.blocks.now laid.entry.size n (looked journal.now.staged kept) index.old
+        → HasNumber laid.entry.base laid.entry.blocks.now laid.entry.size n (looked journal.now.staged kept) index.new) }
+    ensures held { OnOk result (IsTrue (D.meaning disk.old).is_honest
+        → MayHaveNumber laid.entry.base laid.entry.blocks.now laid.entry.size n (held_in journal.now (D.meaning disk.old).bytes) index.old
+        → HasNumber laid.entry.base laid.entry.blocks.now laid.entry.size n (held_in journal.now (D.meaning disk.old).bytes) index.new) }
+    ensures index { length index.new ≡ BLOCK_LEN }
+    ensures disk { ReadsDisk (D.meaning disk.old) (D.meaning disk.new) result }
+    ensures fits { (kept : ℕ → List ℕ) → Fits journal.now (D.meaning disk.old) kept
+        → Fits journal.now (D.meaning disk.new) kept }
+{
+    if n % NUMBERS_PER_INDEX == 0 {
+        read_index(journal, disk, laid, n, index)?;
+    }
+    read_block_by(journal, disk, laid, index, n, buf)
+}
+
 /// Reads the n-th block as `read_block` does, for callers that read one block after the other: `index` keeps the index block from call to
 /// call, and is read again only with the first block that it numbers.
 pub fn read_next_block<D: Disk>(
@@ -232,10 +281,7 @@ pub fn read_next_block<D: Disk>(
     ensures fits { (kept : ℕ → List ℕ) → Fits journal.now (D.meaning disk.old) kept
         → Fits journal.now (D.meaning disk.new) kept }
 {
-    if n % NUMBERS_PER_INDEX == 0 {
-        read_index(journal, disk, laid, n, index)?;
-    }
-    read_block_by(journal, disk, laid, index, n, buf)
+    read_next(journal, disk, laid, index, n, buf)
 }
 
 /// Reads the bytes of a file, by the numbers of its slot, whole blocks straight into the buffer.
@@ -262,7 +308,7 @@ pub fn read_content<D: Disk>(
     for n in 0..laid.size.div_ceil(BLOCK_LEN as u32) {
         let at = n as usize * BLOCK_LEN;
         let end = buf.len().min(at + BLOCK_LEN);
-        read_next_block(journal, disk, laid, &mut index, n, &mut buf[at..end])?;
+        read_next(journal, disk, laid, &mut index, n, &mut buf[at..end])?;
     }
     Ok(())
 }
@@ -336,8 +382,8 @@ fn read_indexes<D: Disk>(
             &mut block,
         )?;
         let count = index_count(laid.size, j as u32) as usize;
-        formed = formed && is_formed(laid.version, &block, count);
         push_numbers(numbers, laid.version, &block, count);
+        formed &= is_formed(laid.version, &block, count);
     }
     Ok(formed)
 }

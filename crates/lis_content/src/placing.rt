@@ -1,6 +1,6 @@
 //! The bytes of a file, placed in free blocks without a record.
 
-ghost use Rattle.std.specs.Prelude.{◌≡◌, ◌+◌, ◌/◌, ◌<◌, ◌≤◌, ◌++◌, [], false, true, length, slice_set, IsTrue, IfOk, Err, MatchResult};
+ghost use Rattle.std.specs.Prelude.{◌≡◌, ◌+◌, ◌*◌, ◌/◌, ◌<◌, ◌≤◌, ◌++◌, [], false, true, length, slice_set, IsTrue, IfOk, Err, MatchResult};
 ghost use Rattle.std.specs.List.{flat_map, range_with_len};
 ghost use Rattle.byteorder.specs.Endian.{little_bytes};
 ghost use Rattle.lis_ports.specs.Runs.{IsDiskRun};
@@ -11,7 +11,6 @@ ghost use Rattle.lis_blockmap.specs.Bitmap.{free_count, is_taken};
 ghost use Rattle.lis_model.specs.Sets.{fit};
 ghost use Rattle.lis_model.specs.Ranges.{most_blocks};
 ghost use Rattle.lis_fields.specs.Layouts.{number_width};
-ghost use Rattle.lis_content.specs.Large.{index_bytes};
 ghost use Rattle.lis_content.specs.Placing.{AreUnstaged, IsLaid, IsPlaced, IsTornOff, IsUnplaced, HasPlaceCause, TakesRow, RowOf, RowTorn, OnePlaced};
 ghost use Rattle.lis_content.specs.declared.fault.PutFault.TheVariants.{NoSpace};
 ghost use Rattle.lis_journal.specs.Record.{homes_start};
@@ -147,6 +146,7 @@ fn place_bytes<D: Disk>(
     base: u32,
     bytes: &[u8],
 ) -> Result<ArrayVec<u32, MAX_FILE_BLOCKS>, Failed>
+    requires numbered { length map.old ≤ V3_MAX_BLOCKS }
     requires few { length bytes.now ≤ V3_MAX_FILE }
     requires enough { blocks_needed (length bytes.now) ≤ free_count map.old }
     requires home { homes_start journal.old.layout ≤ base }
@@ -207,38 +207,6 @@ fn place_index<D: Disk>(
     place_block(map, journal, disk, base, 0, used)
 }
 
-// Places index blocks with these numbers, after a content whose blocks they are. The result is the numbers of the index blocks.
-fn place_indexes<D: Disk>(
-    map: &mut BlockMap,
-    journal: &mut Journal,
-    disk: &mut D,
-    version: u32,
-    base: u32,
-    numbers: &[u32],
-) -> Result<ArrayVec<u32, 16>, Failed>
-    requires count { length numbers.now ≤ MAX_FILE_BLOCKS }
-    requires enough { (length numbers.now + (NUMBERS_PER_INDEX - 1)) / NUMBERS_PER_INDEX ≤ free_count map.old }
-    requires home { homes_start journal.old.layout ≤ base }
-    requires within { base + length map.old ≤ journal.old.layout.blocks }
-    requires usable { JournalIsUsable journal.old (D.meaning disk.old) }
-    requires unstaged { AreUnstaged base map.old journal.old.staged }
-    requires room { length journal.old.placed + (length numbers.now + (NUMBERS_PER_INDEX - 1)) / NUMBERS_PER_INDEX ≤ journal.old.capacity.placed }
-    ensures ended { MatchResult result
-        (λ slot. AreIndexesPlaced version base numbers.now map.old map.new journal.old journal.new (D.meaning disk.old) (D.meaning disk.new) slot.items)
-        (λ _. AreIndexesTorn base map.old map.new journal.old journal.new (D.meaning disk.old) (D.meaning disk.new)) }
-    ensures disk { UsesDisk (D.meaning disk.old) (D.meaning disk.new) result }
-{
-    let mut slot = ArrayVec::new();
-    let mut rest = numbers;
-    while !rest.is_empty() {
-        let (front, behind) = rest.split_at(rest.len().min(NUMBERS_PER_INDEX as usize));
-        let n = place_index(map, journal, disk, version, base, front)?;
-        slot.push(n);
-        rest = behind;
-    }
-    Ok(slot)
-}
-
 // The numbers, as a slot has them.
 fn slot_of(numbers: &[u32]) -> ArrayVec<u32, 16>
     requires { length numbers.now ≤ SLOT_BLOCKS }
@@ -249,7 +217,7 @@ fn slot_of(numbers: &[u32]) -> ArrayVec<u32, 16>
     slot
 }
 
-// Places the bytes, and the index blocks if there are any.
+// Places the bytes, and then the index blocks if there are any, which number 1,024 blocks each.
 fn place_all<D: Disk>(
     map: &mut BlockMap,
     journal: &mut Journal,
@@ -258,6 +226,7 @@ fn place_all<D: Disk>(
     base: u32,
     bytes: &[u8],
 ) -> Result<ArrayVec<u32, 16>, Failed>
+    requires numbered { length map.old ≤ most_blocks version }
     requires few { length bytes.now ≤ V3_MAX_FILE }
     requires enough { blocks_taken 2 (length bytes.now) ≤ free_count map.old }
     requires home { homes_start journal.old.layout ≤ base }
@@ -275,7 +244,15 @@ fn place_all<D: Disk>(
     if !is_large(bytes.len() as u32) {
         return Ok(slot_of(&numbers));
     }
-    place_indexes(map, journal, disk, version, base, &numbers)
+    let mut slot = ArrayVec::new();
+    let mut rest = numbers.as_slice();
+    while !rest.is_empty() {
+        let (front, behind) = rest.split_at(rest.len().min(NUMBERS_PER_INDEX as usize));
+        let n = place_index(map, journal, disk, version, base, front)?;
+        slot.push(n);
+        rest = behind;
+    }
+    Ok(slot)
 }
 
 /// Takes free blocks, and places the bytes and the index blocks in them: no record is written, and until the next commit a crash may leave
