@@ -1,0 +1,136 @@
+-- The blocks of the bitmap that have the bits of some data blocks, and marks of them.
+use Rattle.std.proofs.Common.{arith}
+use Rattle.std.proofs.lemmas.List.{map-append}
+use Rattle.std.proofs.lemmas.List.Elements.{filter-append}
+use Rattle.std.proofs.lemmas.List.Sums.{fold-append}
+use Rattle.lis_kept.proofs.Common.{◌≡◌, ◌⊎◌, ℕ, zero, suc, ◌+◌, ◌*◌, ◌/◌, ◌<◌, ◌≤◌, nat_lt, Bool, true, false, cond, List, [], ◌∷◌, ◌++◌, length, set, map, IsTrue, refl, sym, ap, ◌∙◌, subst, inl, inr, cases_lt, ltb-true, lt-ltb, sum_by-cons, get_or, drop, ◌-◌, cases_eq, get_or-set_same, get_or-set_other, get_or_past, length-set, list_all, all_among, Among, among_map, map_among, among_filter, filter_among, among_right, Limits, are_stored, bitmap_start, data_start, marked, length-marked, Ext}
+use Rattle.lis_bits.proofs.Numbers.{bytes_same}
+use Rattle.lis_blockmap.specs.Bitmap.{is_taken, bitmap_bytes}
+use Rattle.lis_content.specs.Content.{given}
+use Rattle.lis_model.specs.Image.{bitmap_blocks}
+use Rattle.lis_kept.specs.Metadata.{Metadata}
+use Rattle.lis_kept.specs.Areas.{Area, slots_of, block_of, spelled, bitmap_home, is_marked}
+use Rattle.lis_kept.specs.Areas.Area.{Properties, Axioms, Files, Rows, Bitmap}
+use Rattle.lis_kept.specs.Sound.{AreSound}
+use Rattle.lis_kept.specs.Changes.{Marks, Takes, bitmap_homes}
+use Rattle.lis_kept.proofs.Marking.{true_in, marked_only, one_at_most, blocks_marked}
+
+-- a flag that is true is there
+within_if_taken : (bits : List Bool) (n : ℕ) → is_taken bits n ≡ true → n < length bits
+within_if_taken bits n is = by (cases_lt n (length bits))
+  where
+    by : (n < length bits) ⊎ (length bits ≤ n) → n < length bits
+    by (inl lt) = lt
+    by (inr past) = absurd (let e : true ≡ false = sym is ∙ get_or_past bits n false past in cc)
+
+next_at : (ns : List ℕ) (i : ℕ) → i < length ns → drop i ns ≡ get_or ns i 0 ∷ drop (i + 1) ns
+next_at ns i lt = drop-cons ns i 0 lt ∙ ap (λ k. get_or ns i 0 ∷ drop k ns) (sym (add-one i))
+
+-- ---- which blocks they are
+-- each is one of the bitmap's
+pub homes_within : (limits : Limits) (blocks : List ℕ) (n : ℕ) → Among (bitmap_homes limits blocks) n → (bitmap_start limits ≤ n) × (n < bitmap_start limits + bitmap_blocks limits)
+homes_within limits blocks n among =
+    let found = among_map (bitmap_home limits) (filter (λ b. nat_lt b limits.blocks) blocks) n among in
+    let lt = ltb-true found.0 limits.blocks (among_filter (λ b. nat_lt b limits.blocks) blocks found.0 found.1).1 in
+    (omega (arith, found.2), omega (arith, found.2, lt))
+
+-- the one with the bit of a data block
+pub home_among : (limits : Limits) (blocks : List ℕ) (b : ℕ) → Among blocks b → b < limits.blocks → Among (bitmap_homes limits blocks) (bitmap_home limits b)
+home_among limits blocks b among lt =
+    map_among (bitmap_home limits) (filter (λ b. nat_lt b limits.blocks) blocks) b
+    (filter_among (λ b. nat_lt b limits.blocks) blocks b among (lt-ltb b limits.blocks lt))
+
+-- those of some data blocks, and then those of others
+pub homes_both : (limits : Limits) (one two : List ℕ) → bitmap_homes limits (one ++ two) ≡ bitmap_homes limits one ++ bitmap_homes limits two
+homes_both limits one two =
+    ap (map (bitmap_home limits)) (filter-append (λ b. nat_lt b limits.blocks) one two)
+    ∙ map-append (bitmap_home limits) (filter (λ b. nat_lt b limits.blocks) one) (filter (λ b. nat_lt b limits.blocks) two)
+
+pub marked_both : (limits : Limits) (bits : List Bool) (one two : List ℕ)
+    → marked (marked bits (bitmap_homes limits one)) (bitmap_homes limits two) ≡ marked bits (bitmap_homes limits (one ++ two))
+marked_both limits bits one two =
+    sym (ap (marked bits) (homes_both limits one two) ∙ fold-append (λ t n. set t n true) bits (bitmap_homes limits one) (bitmap_homes limits two))
+
+-- ---- how many are marked
+abbrev Within : ℕ → ℕ → ℕ → Type 0
+Within first m n = (first ≤ n) × (n < first + m)
+
+true_of : (b : Bool) (bits : List Bool) → true_in (b ∷ bits) ≡ cond b 1 0 + true_in bits
+true_of b bits = sum_by-cons (λ (b : Bool). cond b 1 0) b bits
+
+no_more : (was now : Bool) → (now ≡ true → was ≡ true) → cond now 1 0 ≤ cond was 1 0
+no_more was true still = omega (arith, ap (λ b. cond b 1 0) (still refl))
+no_more was false still = omega arith
+
+-- what was true, unless it is in the range
+unless : (first m n : ℕ) (was now : Bool) → (Within first m n → ⊥) → (now ≡ true → (was ≡ true) ⊎ Within first m n) → now ≡ true → was ≡ true
+unless first m n was now out within is = by (within is)
+  where
+    by : (was ≡ true) ⊎ Within first m n → was ≡ true
+    by (inl still) = still
+    by (inr inside) = absurd (out inside)
+
+-- the same of the bits after the first
+behind : (first m f k n : ℕ) (was : Bool) → f ≡ first - 1 → f + k ≡ first + m - 1 → (was ≡ true) ⊎ Within first m (suc n) → (was ≡ true) ⊎ Within f k n
+behind first m f k n was low end (inl still) = inl still
+behind first m f k n was low end (inr inside) = inr (omega (arith, inside.0, low), omega (arith, inside.1, end))
+
+-- bits that become true only within m places become true at most m times
+few_more : (first m : ℕ) (bits after : List Bool) → length after ≡ length bits → ((n : ℕ) → is_taken after n ≡ true → (is_taken bits n ≡ true) ⊎ Within first m n) → true_in after ≤ true_in bits + m
+few_more first m [] [] len within = omega arith
+few_more first m [] (a ∷ after) len within = absurd (omega (arith, len))
+few_more first m (b ∷ bits) [] len within = absurd (omega (arith, len))
+few_more zero zero (b ∷ bits) (a ∷ after) len within =
+    let rest = few_more 0 0 bits after (omega (arith, len)) (λ n is. behind 0 0 0 0 n (is_taken bits n) (omega arith) (omega arith) (within (suc n) is)) in
+    omega (arith, true_of b bits, true_of a after, no_more b a (unless 0 0 0 b a (λ r. omega (arith, r.1)) (within 0)), rest)
+few_more zero (suc m) (b ∷ bits) (a ∷ after) len within =
+    let rest = few_more 0 m bits after (omega (arith, len)) (λ n is. behind 0 (suc m) 0 m n (is_taken bits n) (omega arith) (omega arith) (within (suc n) is)) in
+    omega (arith, true_of b bits, true_of a after, one_at_most a, rest)
+few_more (suc f) m (b ∷ bits) (a ∷ after) len within =
+    let rest = few_more f m bits after (omega (arith, len)) (λ n is. behind (suc f) m f m n (is_taken bits n) (omega arith) (omega arith) (within (suc n) is)) in
+    omega (arith, true_of b bits, true_of a after, no_more b a (unless (suc f) m 0 b a (λ r. omega (arith, r.0)) (within 0)), rest)
+
+-- whatever data blocks they are of, no more of them than the bitmap has
+pub few_in_bitmap : (limits : Limits) (bits : List Bool) (blocks : List ℕ) → true_in (marked bits (bitmap_homes limits blocks)) ≤ true_in bits + bitmap_blocks limits
+few_in_bitmap limits bits blocks =
+    few_more (bitmap_start limits) (bitmap_blocks limits) bits (marked bits homes) (length-marked bits homes) (λ n is. by n (marked_only homes bits n is))
+  where
+    homes : List ℕ
+    homes = bitmap_homes limits blocks
+
+    by : (n : ℕ) → (is_taken bits n ≡ true) ⊎ Among homes n → (is_taken bits n ≡ true) ⊎ Within (bitmap_start limits) (bitmap_blocks limits) n
+    by n (inl was) = inl was
+    by n (inr among) = inr (homes_within limits blocks n among)
+
+-- what is marked stays so
+marked_still : (bits : List Bool) (homes : List ℕ) (n : ℕ) → is_taken bits n ≡ true → is_taken (marked bits homes) n ≡ true
+marked_still bits [] n is = is
+marked_still bits (h ∷ homes) n is = marked_still (set bits h true) homes n (by (cases_eq n h))
+  where
+    by : (n ≡ h) ⊎ (n ≡ h → ⊥) → is_taken (set bits h true) n ≡ true
+    by (inl here) = ap (λ m. is_taken (set bits h true) m) here ∙ get_or-set_same bits h true false (within_if_taken bits h (subst (λ m. is_taken bits m ≡ true) here is))
+    by (inr other) = get_or-set_other bits h n true false other ∙ is
+
+-- each of them is marked
+marked_among : (bits : List Bool) (homes : List ℕ) (n : ℕ) → n < length bits → Among homes n → is_taken (marked bits homes) n ≡ true
+marked_among bits (h ∷ homes) n lt (inl here) = subst (λ m. is_taken (marked (set bits h true) homes) m ≡ true) here (marked_still (set bits h true) homes h (get_or-set_same bits h true false (omega (arith, here, lt))))
+marked_among bits (h ∷ homes) n lt (inr more) = marked_among (set bits h true) homes n (omega (arith, lt, length-set bits h true)) more
+
+-- ---- a loop over data blocks
+-- one data block more
+pub marks_one : (limits : Limits) (bits : List Bool) (blocks : List ℕ) (i : ℕ) → i < length blocks → get_or blocks i 0 < limits.blocks
+    → marked (set bits (bitmap_home limits (get_or blocks i 0)) true) (bitmap_homes limits (drop (i + 1) blocks)) ≡ marked bits (bitmap_homes limits (drop i blocks))
+marks_one limits bits blocks i at lt =
+    let n = get_or blocks i 0 in
+    let rest = filter (λ b. nat_lt b limits.blocks) (drop (i + 1) blocks) in
+    sym (ap (λ ns. marked bits (bitmap_homes limits ns)) (next_at blocks i at)
+    ∙ ap (λ b. marked bits (map (bitmap_home limits) (cond b (n ∷ rest) rest))) (lt-ltb n limits.blocks lt))
+
+-- one that the image does not have
+pub marks_none : (limits : Limits) (bits : List Bool) (blocks : List ℕ) (i : ℕ) → i < length blocks → limits.blocks ≤ get_or blocks i 0
+    → marked bits (bitmap_homes limits (drop (i + 1) blocks)) ≡ marked bits (bitmap_homes limits (drop i blocks))
+marks_none limits bits blocks i at le =
+    let n = get_or blocks i 0 in
+    let rest = filter (λ b. nat_lt b limits.blocks) (drop (i + 1) blocks) in
+    sym (ap (λ ns. marked bits (bitmap_homes limits ns)) (next_at blocks i at)
+    ∙ ap (λ b. marked bits (map (bitmap_home limits) (cond b (n ∷ rest) rest))) (le-ltb n limits.blocks le))
