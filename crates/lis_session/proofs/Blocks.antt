@@ -53,12 +53,9 @@ module _ {k : Stored} {old mid : Meaning} {state : State} (piece : List ℕ) (fi
   read_leaves : Leaves old mid (λ image. Stands image state ⊎ Stands image state)
   read_leaves = leaves_weaken _ read (λ image is. inl (fitting.stands.leaves image is))
 
-  -- something was read, and then the piece is shown
-  pub read_fits : StoreFits k mid state → FitsAt (StoreFits k mid) mid state
+  -- something was read
+  read_fits : StoreFits k mid state → FitsAt (StoreFits k mid) mid state
   read_fits fits = record { honest = fits.journal.honest; stands = always_unchanged fitting.stands same; own = fits }
-
-  pub read_then : {new : Meaning} (result : Result (Unit {0}) End) → StoreFits k mid state → Shows state piece mid new result (StoreFits k new) → Shows state piece old new result (StoreFits k new)
-  read_then result fits item = item_then result (quiet_done {next = root_of state} read_leaves (unchanged_past same (image_blocks state.limits)) (read_fits fits) refl) item.past item
 
   -- it was read, and shown
   pub block_item : {new : Meaning} (result : Result (Unit {0}) End) → StoreFits k mid state → Answers mid new piece result → Shows state piece old new result (StoreFits k new)

@@ -37,7 +37,7 @@ module _ (k : Metadata) (at there : ℕ → List ℕ) (sound : AreSound k) (same
   tells_there s front tells = search (rules, state_there, file_there, among_from_contains, blocks_there, index_there)
 
 -- ---- what is written
-module _ (k : Metadata) (at there : ℕ → List ℕ) (range : IsTrue (are_stored k.limits)) (same : (n : ℕ) → properties_start ≤ n → n < data_start k.limits → there n ≡ at n) where
+module _ (k : Metadata) (at there : ℕ → List ℕ) (range : IsTrue (are_stored k.limits)) (same : (n : ℕ) → properties_start k.limits ≤ n → n < data_start k.limits → there n ≡ at n) where
   pub written_there : IsWritten k at → IsWritten k there
   written_there written area n lt = search (rules, among_slots, held_by)
 
@@ -58,7 +58,7 @@ abbrev pub AreSameBut : Metadata → List ℕ → (ℕ → List ℕ) → (ℕ �
 AreSameBut k blocks at there = (n : ℕ) → IsOutside (image_layout k.limits) n → has_home (data_start k.limits) blocks n ≡ false → there n ≡ at n
 
 module _ (k : Metadata) (blocks : List ℕ) (at there : ℕ → List ℕ) (sound : AreSound k) (free : IsTrue (are_free k.taken blocks)) (same : AreSameBut k blocks at there) where
-  pub homes_same : (n : ℕ) → properties_start ≤ n → n < data_start k.limits → there n ≡ at n
+  pub homes_same : (n : ℕ) → properties_start k.limits ≤ n → n < data_start k.limits → there n ≡ at n
   homes_same n low lt = same n (inr low) (no_home_before (data_start k.limits) n blocks lt)
 
   pub written_elsewhere : IsWritten k at → IsWritten k there

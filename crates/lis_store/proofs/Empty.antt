@@ -1,6 +1,6 @@
 -- A blank image has no words and no files: it represents the empty state.
 use Rattle.std.proofs.Common.{rules}
-use Rattle.lis_store.proofs.Common.{◌≡◌, refl, sym, ap, ◌∙◌, ℕ, zero, suc, ◌+◌, ◌-◌, ◌/◌, ◌<◌, ◌≤◌, ◌≢◌, false, List, [], get_or, take, replicate, slice_get, slice_index, Some, IsTrue, arith, ◌==◌, insert_key, Contains, length-replicate, get_or-replicate, slice_get_within, get_or_from_slice_get, among_from_contains, part, block, is_taken, Dict, IsDict, has, SpellsSuper, AxiomSlot, FreeAxiom, Pair, Limits, are_stored, bitmap_start, data_start, State, pair_cmp, Metadata, IsWritten, axiom_slots, Properties, Axioms, Bitmap, AreSound, Tells, among_slots, list_any, Meaning, both_ways, Files, Rows, true, KeepsInUse, is_linked}
+use Rattle.lis_store.proofs.Common.{◌≡◌, refl, sym, ap, ◌∙◌, ℕ, zero, suc, ◌+◌, ◌-◌, ◌*◌, ◌/◌, ◌<◌, ◌≤◌, ◌≢◌, false, List, [], get_or, take, replicate, slice_get, slice_index, Some, IsTrue, arith, ◌==◌, insert_key, Contains, length-replicate, get_or-replicate, slice_get_within, get_or_from_slice_get, among_from_contains, part, block, is_taken, Dict, IsDict, has, SpellsSuper, AxiomSlot, FreeAxiom, Pair, Limits, are_stored, bitmap_start, data_start, State, pair_cmp, Metadata, IsWritten, axiom_slots, Properties, Axioms, Bitmap, AreSound, Tells, among_slots, list_any, Meaning, both_ways, Files, Rows, true, KeepsInUse, is_linked}
 use Rattle.std.specs.List.{fold}
 use Rattle.std.proofs.lemmas.List.{drop-replicate, take-replicate, take-take}
 use Rattle.lis_slots.specs.Slots.{Slots, home, place, slot}
@@ -15,7 +15,7 @@ use Rattle.lis_laws.proofs.Steps.{empty_formed}
 use Rattle.lis_kept.specs.Areas.{Area, slots_of, row_slots}
 use Rattle.lis_kept.specs.Telling.{pairs_told}
 use Rattle.lis_model.proofs.Stored.{stored_range, each_files_limit}
-use Rattle.lis_kept.proofs.InArea.{whole_files, files_range}
+use Rattle.lis_kept.proofs.InArea.{some_properties, whole_files, files_range}
 use Rattle.lis_kept.proofs.Spelled.{row_bytes_none}
 use Rattle.lis_store.specs.Blank.{IsBlank}
 use Rattle.lis_store.specs.Stands.{Stands}
@@ -95,9 +95,9 @@ zeros-part at n total le = ap (take n) (drop-replicate at total 0) ∙ take-repl
 free_slot : (slots : Slots) (at : ℕ → List ℕ) (k : ℕ) → at (home slots k) ≡ zeros 4096 → place slots k + slots.width ≤ 4096 → slot slots at k ≡ zeros slots.width
 free_slot slots at k blank within = ap (part (place slots k) slots.width) blank ∙ zeros-part (place slots k) slots.width 4096 within
 
-bitmap-none : (n : ℕ) → bitmap_bytes (replicate n false) ≡ zeros 4096
+bitmap-none : (n blocks : ℕ) → bitmap_bytes n (replicate blocks false) ≡ zeros 4096
 unfolding bitmap_bytes zeros
-bitmap-none n = sym (bytes_none 4096 (is_taken (replicate n false)) (none_set n))
+bitmap-none n blocks = sym (bytes_none 4096 (λ k. is_taken (replicate blocks false) (32768 * n + k)) (λ k. none_set blocks (32768 * n + k)))
 
 -- a row ends inside its block
 row_within : (limits : Limits) (k : ℕ) → IsTrue (are_stored limits) → place (row_slots limits) k + (row_slots limits).width ≤ 4096
@@ -127,7 +127,7 @@ module _ (limits : Limits) (blocks : ℕ) (image : List ℕ) (range : IsTrue (ar
   written_empty Rows n lt =
       free_slot (slots_of limits Rows) at n (zero_at Rows n lt) (row_within limits n range)
       ∙ row_bytes_none (empty_metadata limits blocks).ext n (limits.files / 8) (omega (arith, length-replicate {A = List ℕ} limits.files [], whole_files limits range)) (λ file. no_set limits blocks n file)
-  written_empty Bitmap n lt = blank.homes (bitmap_start limits) (omega arith) (omega arith) ∙ sym (bitmap-none limits.blocks)
+  written_empty Bitmap n lt = blank.homes (bitmap_start limits + n) (omega arith) (omega (arith, lt)) ∙ sym (bitmap-none n limits.blocks)
 
   pub tells_empty : SpellsSuper limits (part 0 4096 image) → Tells (empty_metadata limits blocks) at (empty_state limits)
   tells_empty super = record {
@@ -154,7 +154,7 @@ pub empty_fits : (m : Meaning) (limits : Limits) (blocks : ℕ) (image : List �
 empty_fits m limits blocks image range room honest settled super blank =
     record {
       kept = λ n. block n image;
-      journal = settled_fits (empty_stored limits blocks).journal image refl honest settled (omega arith) blank.long (ap (list_any (λ gate. gate == 1)) blank.gates);
+      journal = settled_fits (empty_stored limits blocks).journal image refl honest settled (omega (arith, some_properties limits range)) blank.long (ap (list_any (λ gate. gate == 1)) blank.gates);
       unbroken = refl;
       settled = refl;
       tells = tells_empty limits blocks image range blank super;

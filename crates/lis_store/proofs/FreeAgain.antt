@@ -48,6 +48,9 @@ module _ (p mid : Metadata) (slot : ℕ) (rec : FileRecord) (there : rec_at p.ca
       let short = (record_in_form p.limits p.dict p.limits.blocks rec (sound.records slot rec there)).small in
       small_size rec.size (omega (arith, short, first_limit p.limits one))
 
+  taken_given : mid.taken ≡ given p.taken rec.blocks
+  taken_given = ap (λ (k : Metadata). k.taken) gives.takes.metadata ∙ ap (given p.taken) (gives.small small)
+
   -- in version 1 its blocks count as free
   pub enough_given : blocks_taken mid.limits.version size ≤ free_count mid.taken
-  enough_given = search (rules, free_given, blocks_apart, cond-true, eq-eqb, cond-false, small)
+  enough_given = search (rules, free_given, blocks_apart, cond-true, eq-eqb, cond-false, taken_given)

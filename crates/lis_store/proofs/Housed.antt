@@ -17,7 +17,7 @@ pub record IsHoused (limits : Limits) (taken now : List Bool) (old blocks bytes 
   pub below : (n : ℕ) → has_number blocks n ≡ true → n < limits.blocks
   pub vacant : (n : ℕ) → has_number blocks n ≡ true → is_taken taken n ≡ true → has_number old n ≡ true
   pub distinct : IsTrue (are_distinct blocks)
-  pub holds : HasFile (data_start limits) bytes numbers blocks there
+  pub holds : HasFile limits.version (data_start limits) bytes numbers blocks there
   pub same : (n : ℕ) → has_home (data_start limits) blocks n ≡ false → there n ≡ at n
   pub marks : (n : ℕ) → n < limits.blocks → is_taken now n ≡ (has_number blocks n || (is_taken taken n && not (has_number old n)))
 
@@ -35,7 +35,7 @@ housed_given {limits} {taken} {now} {old} {blocks} housed = grind (arith, common
 
 -- ---- bytes that are put into other blocks
 module _ (limits : Limits) (taken mid now : List Bool) (old blocks bytes numbers : List ℕ) (at there : ℕ → List ℕ) (len : length taken ≡ limits.blocks) (distinct : are_distinct blocks ≡ true)
-    (holds : HasFile (data_start limits) bytes numbers blocks there) (same : (n : ℕ) → has_home (data_start limits) blocks n ≡ false → there n ≡ at n) where
+    (holds : HasFile limits.version (data_start limits) bytes numbers blocks there) (same : (n : ℕ) → has_home (data_start limits) blocks n ≡ false → there n ≡ at n) where
   -- if the blocks of the other file are freed first
   pub given_first : mid ≡ given taken old → are_free mid blocks ≡ true → now ≡ marked mid blocks → IsHoused limits taken now old blocks bytes numbers at there
   given_first gave free marks = record {
@@ -101,7 +101,7 @@ module _ (k : Metadata) (at : ℕ → List ℕ) (s : State) (tells : Tells k at 
 
 -- ---- blocks that are freed and taken
 module _ (k : Metadata) (sound : AreSound k) (at there : ℕ → List ℕ) (s : State) (tells : Tells k at s) (f : Filed) (m : Among k.catalog.entries f) (now : List Bool) (blocks bytes numbers : List ℕ) (distinct : are_distinct blocks ≡ true)
-    (holds : HasFile (data_start k.limits) bytes numbers blocks there) (same : (n : ℕ) → has_home (data_start k.limits) blocks n ≡ false → there n ≡ at n) where
+    (holds : HasFile k.limits.version (data_start k.limits) bytes numbers blocks there) (same : (n : ℕ) → has_home (data_start k.limits) blocks n ≡ false → there n ≡ at n) where
   abbrev old : List ℕ
   old = blocks_told k.limits at f.rec
 
@@ -123,7 +123,7 @@ module _ (k : Metadata) (sound : AreSound k) (at there : ℕ → List ℕ) (s : 
 
 -- and if no file is replaced
 pub alone_housed : (limits : Limits) (taken now : List Bool) (blocks bytes numbers : List ℕ) (at there : ℕ → List ℕ) → length taken ≡ limits.blocks → are_distinct blocks ≡ true
-    → HasFile (data_start limits) bytes numbers blocks there → ((n : ℕ) → has_home (data_start limits) blocks n ≡ false → there n ≡ at n)
+    → HasFile limits.version (data_start limits) bytes numbers blocks there → ((n : ℕ) → has_home (data_start limits) blocks n ≡ false → there n ≡ at n)
     → Trades limits None taken now blocks at there → IsHoused limits taken now [] blocks bytes numbers at there
 alone_housed limits taken now blocks bytes numbers at there len distinct holds same (First free marks) = given_first limits taken taken now [] blocks bytes numbers at there len distinct holds same refl free marks
 alone_housed limits taken now blocks bytes numbers at there len distinct holds same (Last free gave) =

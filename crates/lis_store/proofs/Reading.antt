@@ -1,12 +1,14 @@
 -- One block of a file's bytes.
 use Rattle.std.proofs.Common.{rules}
-use Rattle.lis_store.proofs.Common.{◌≡◌, refl, sym, ap, ◌∙◌, subst, inl, inr, ℕ, zero, suc, ◌+◌, ◌-◌, ◌*◌, ◌<◌, ◌≤◌, List, [], ◌∷◌, ◌++◌, length, get_or, take, drop, replicate, slice_index, nat_lt, true, Some, IsSomeAnd, arith, flat_map, cases_lt, lt-ltb, take_all, length-take-le, Meaning, part, Fits, looked, is_large, slot_count, content_blocks, Among, FileRecord, Filed, slot_of, rec_at, data_start, State, File, bytes_told, filed_at_slot, HomeBlock, file_of}
+use Rattle.lis_store.proofs.Common.{◌≡◌, refl, sym, ap, ◌∙◌, subst, inl, inr, ℕ, zero, suc, ◌+◌, ◌-◌, ◌*◌, ◌/◌, ◌<◌, ◌≤◌, List, [], ◌∷◌, ◌++◌, length, get_or, take, drop, replicate, slice_index, nat_lt, true, Some, IsSomeAnd, same_Some, arith, flat_map, cases_lt, lt-ltb, take_all, length-take-le, Meaning, part, Fits, looked, slot_count, content_blocks, Among, FileRecord, Filed, slot_of, rec_at, data_start, State, File, bytes_told, filed_at_slot, HomeBlock, file_of}
 use Rattle.std.proofs.lemmas.Bool.{cond-true}
 use Rattle.std.proofs.lemmas.List.{take_at, take-take, take-append-le, drop-drop, drop_at, drop-take}
 use Rattle.lis_journal.specs.Images.{held_in}
 use Rattle.lis_journal.proofs.Fitting.{fits_held}
 use Rattle.lis_content.specs.Content.{are_within}
-use Rattle.lis_content.specs.Large.{index_home, block_within}
+use Rattle.lis_journal.specs.Record.{homes_start}
+use Rattle.lis_content.specs.Large.{HasNumber, MayHaveNumber, index_home, block_within}
+use Rattle.lis_content.proofs.Reading.{may_have_next}
 use Rattle.lis_model.specs.State.{blocks_needed}
 use Rattle.lis_kept.proofs.BlocksTaken.{slot_within}
 use Rattle.lis_store.specs.Stored.{Stored, IsSound, StoreFits, IsIndex}
@@ -16,9 +18,8 @@ use Rattle.lis_store.proofs.FileBlocks.{content_told, content_among, content_cou
 use Rattle.lis_store.proofs.StoreSays.{file_in_slot, told_below}
 use Rattle.lis_store.proofs.ToldBy.{told_fits}
 use Rattle.lis_store.proofs.Spelled.{sound_parts}
-use Rattle.lis_kept.proofs.Image.{same_blocks}
+use Rattle.lis_kept.proofs.Image.{same_blocks, same_homes}
 use Rattle.lis_model.proofs.Stored.{stored_limit_le}
-use Rattle.lis_model.specs.Image.{properties_start}
 
 -- ---- pieces of one length
 module _ {X : Type 0} (w : ℕ) (at : X → List ℕ) where
@@ -46,6 +47,10 @@ module _ {X : Type 0} (w : ℕ) (at : X → List ℕ) where
       (front_of left (at (get_or xs n d)) (flat_map at (drop (suc n) xs)) (whole (get_or xs n d) (among_at xs n d lt)))
 
 -- ---- the n-th block of a file
+-- before the first block a caller has no index block
+pub index_first : (k : Stored) (bytes : List ℕ) (slot : ℕ) (index : List ℕ) → IsIndex k bytes slot 0 index
+index_first k bytes slot index rec is first large = absurd (first refl)
+
 -- a slot has this record, with these numbers of blocks and this size, and its file has bytes in an n-th block
 pub record HasBlock (k : Stored) (slot n : ℕ) (rec : FileRecord) (ns : List ℕ) (size : ℕ) : Type 0 where
   pub sound : IsSound k
@@ -54,9 +59,9 @@ pub record HasBlock (k : Stored) (slot n : ℕ) (rec : FileRecord) (ns : List �
   pub numbers : ns ≡ rec.blocks
   pub sized : size ≡ rec.size
 
-pub has_block : {k now : Stored} {slot : ℕ} {rec inside : FileRecord} {ns : List ℕ} (n : ℕ) → k ≡ now → IsSound k → rec_at k.metadata.catalog slot ≡ Some rec
-    → IsSomeAnd (rec_at now.metadata.catalog slot) (λ (r : FileRecord). 4096 * n < r.size) → inside ≡ rec → ns ≡ inside.blocks → HasBlock k slot n rec ns inside.size
-has_block {slot = slot} n view sound is_rec within is_it numbers = search (rules)
+pub has_block : {k now : Stored} {slot : ℕ} {rec : FileRecord} {ns : List ℕ} {size : ℕ} (n : ℕ) → k ≡ now → IsSound k → rec_at k.metadata.catalog slot ≡ Some rec
+    → IsSomeAnd (rec_at now.metadata.catalog slot) (λ (r : FileRecord). 4096 * n < r.size) → ns ≡ rec.blocks → size ≡ rec.size → HasBlock k slot n rec ns size
+has_block {slot = slot} n view sound is_rec within numbers sized = search (rules)
 
 module _ {k : Stored} {slot n : ℕ} {rec : FileRecord} {ns : List ℕ} {size : ℕ} (has : HasBlock k slot n rec ns size) where
   abbrev filed : Filed
@@ -77,16 +82,35 @@ module _ {k : Stored} {slot n : ℕ} {rec : FileRecord} {ns : List ℕ} {size : 
   pub block_inside : n < blocks_needed size
   block_inside = let within = has.within in omega (arith, within, has.sized)
 
-  -- the index block, by the numbers of the slot
-  index_is : (base : ℕ) → base ≡ data_start k.metadata.limits → index_home base ns ≡ index_home (data_start k.metadata.limits) rec.blocks
-  index_is base is_base = ap (λ b. index_home b ns) is_base ∙ ap (index_home (data_start k.metadata.limits)) has.numbers
+  pub block_home : (base : ℕ) → base ≡ data_start k.metadata.limits → homes_start k.journal.layout ≤ base
+  block_home base is_base = omega (arith, is_base, same_homes has.sound.image)
 
-  pub index_held : (base : ℕ) (index bytes : List ℕ) → base ≡ data_start k.metadata.limits → (is_large size ≡ true → index ≡ held_in k.journal bytes (index_home base ns)) → IsIndex k bytes slot index
-  index_held base index bytes is_base held other is_other large = search (rules, index_is)
+  -- ---- the index block with its number
+  -- by what is read of the slot, and by what memory has of it
+  index_read : (base : ℕ) (index bytes : List ℕ) → base ≡ data_start k.metadata.limits → IsIndex k bytes slot n index → MayHaveNumber base ns size n (held_in k.journal bytes) index
+  index_read base index bytes is_base is_index =
+      let M : ℕ → List ℕ → ℕ → Type 0 = λ b numbers total. MayHaveNumber b numbers total n (held_in k.journal bytes) index in
+      subst (λ b. M b ns size) (sym is_base)
+      (subst (λ numbers. M (data_start k.metadata.limits) numbers size) (sym has.numbers)
+      (subst (λ total. M (data_start k.metadata.limits) rec.blocks total) (sym has.sized) (is_index rec has.is_rec)))
 
-  pub index_kept : (m : Meaning) (base : ℕ) (index : List ℕ) → base ≡ data_start k.metadata.limits → properties_start ≤ base → IsIndex k m.bytes slot index
-      → (kept : ℕ → List ℕ) → Fits k.journal m kept → is_large size ≡ true → index ≡ looked k.journal.staged kept (index_home base ns)
-  index_kept m base index is_base high is_index kept fits large = search (rules, index_is, fits_held)
+  -- by what the disk keeps
+  pub index_kept : (m : Meaning) (base : ℕ) (index : List ℕ) → base ≡ data_start k.metadata.limits → IsIndex k m.bytes slot n index
+      → (kept : ℕ → List ℕ) → Fits k.journal m kept → MayHaveNumber base ns size n (looked k.journal.staged kept) index
+  index_kept m base index is_base is_index kept fits first large =
+      index_read base index m.bytes is_base is_index first large
+      ∙ fits_held k.journal fits (index_home base ns (n / 1024)) (inr (omega (arith, block_home base is_base)))
+
+  -- and for the next block
+  pub index_next : (base : ℕ) (index after bytes : List ℕ) → base ≡ data_start k.metadata.limits
+      → (MayHaveNumber base ns size n (held_in k.journal bytes) index → HasNumber base ns size n (held_in k.journal bytes) after) → IsIndex k bytes slot n index → IsIndex k bytes slot (n + 1) after
+  index_next base index after bytes is_base next is_index other is_other =
+      let M : ℕ → FileRecord → Type 0 = λ b r. MayHaveNumber b r.blocks r.size (n + 1) (held_in k.journal bytes) after in
+      let N : List ℕ → ℕ → Type 0 = λ numbers total. MayHaveNumber base numbers total (n + 1) (held_in k.journal bytes) after in
+      let here : N ns size = may_have_next base ns size n (held_in k.journal bytes) after (next (index_read base index bytes is_base is_index)) in
+      subst (λ b. M b other) is_base
+      (subst (λ r. M base r) (same_Some rec other (sym has.is_rec ∙ is_other))
+      (subst (λ numbers. N numbers rec.size) has.numbers (subst (λ total. N ns total) has.sized here)))
 
   module _ (m : Meaning) (s : State) (fits : StoreFits k m s) where
     abbrev numbers : List ℕ
@@ -108,25 +132,31 @@ module _ {k : Stored} {slot n : ℕ} {rec : FileRecord} {ns : List ℕ} {size : 
         subst (λ bytes. take (length (part (4096 * n) 4096 bytes)) (at (get_or numbers n 0)) ≡ part (4096 * n) 4096 bytes) (sym bytes_are)
         (part_of_pieces 4096 at numbers n rec.size 0 (λ b among. (told_fits k m s has.sound fits).whole b (below b among)) in_content (omega arith))
 
+    number_whole : length (fits.kept (data_start k.metadata.limits + get_or numbers n 0)) ≡ 4096
+    number_whole = (told_fits k m s has.sound fits).whole (get_or numbers n 0) (below (get_or numbers n 0) (among_at numbers n 0 in_content))
+
     number_within : data_start k.metadata.limits + get_or numbers n 0 < k.journal.layout.blocks
     number_within = omega (arith, below (get_or numbers n 0) (among_at numbers n 0 in_content), same_blocks has.sound.image)
 
-  pub block_read : (m : Meaning) (base : ℕ) (buf : List ℕ) → base ≡ data_start k.metadata.limits
+  pub block_read : (m : Meaning) (version base len : ℕ) (buf : List ℕ) → version ≡ k.metadata.limits.version → base ≡ data_start k.metadata.limits → len ≡ 4096
       → ((kept : ℕ → List ℕ) → Fits k.journal m kept
-      → buf ≡ block_within base k.journal.layout.blocks (looked k.journal.staged kept) (slice_index (content_blocks base ns size (looked k.journal.staged kept)) n))
+      → buf ≡ take len (block_within base k.journal.layout.blocks (looked k.journal.staged kept) (slice_index (content_blocks version base ns size (looked k.journal.staged kept)) n)))
       → (s : State) (name : List ℕ) → StoreFits k m s → slot_of k.metadata.catalog name ≡ Some slot
       → take (length (part (4096 * n) 4096 (file_of s.files name).bytes)) buf ≡ part (4096 * n) 4096 (file_of s.files name).bytes
-  block_read m base buf is_base read s name fits is_slot =
-      let held : ℕ → List ℕ → ℕ → List HomeBlock → List ℕ =
-      λ b slots bytes es. block_within b k.journal.layout.blocks (looked es fits.kept) (slice_index (content_blocks b slots bytes (looked es fits.kept)) n) in
+  block_read m version base len buf is_version is_base whole read s name fits is_slot =
+      let held : ℕ → ℕ → List ℕ → ℕ → List HomeBlock → List ℕ =
+      λ v b slots bytes es. block_within b k.journal.layout.blocks (looked es fits.kept) (slice_index (content_blocks v b slots bytes (looked es fits.kept)) n) in
       let ds = data_start k.metadata.limits in
+      let v = k.metadata.limits.version in
       let number = get_or (numbers m s fits) n 0 in
-      let is_read : buf ≡ held ds rec.blocks rec.size [] =
-      read fits.kept fits.journal
-      ∙ (ap (held base ns size) fits.settled
-      ∙ (ap (λ b. held b ns size []) is_base
-      ∙ (ap (λ slots. held ds slots size []) has.numbers
-      ∙ ap (λ bytes. held ds rec.blocks bytes []) has.sized))) in
-      let is_block : buf ≡ fits.kept (ds + number) =
+      let is_read : held version base ns size k.journal.staged ≡ held v ds rec.blocks rec.size [] =
+      ap (held version base ns size) fits.settled
+      ∙ (ap (λ x. held x base ns size []) is_version
+      ∙ (ap (λ b. held v b ns size []) is_base
+      ∙ (ap (λ slots. held v ds slots size []) has.numbers
+      ∙ ap (λ bytes. held v ds rec.blocks bytes []) has.sized))) in
+      let is_kept : held version base ns size k.journal.staged ≡ fits.kept (ds + number) =
       is_read ∙ cond-true (nat_lt (ds + number) k.journal.layout.blocks) (fits.kept (ds + number)) (replicate 4096 0) (lt-ltb (ds + number) k.journal.layout.blocks (number_within m s fits)) in
+      let is_block : buf ≡ fits.kept (ds + number) =
+      read fits.kept fits.journal ∙ (ap (take len) is_kept ∙ take_all len (fits.kept (ds + number)) (omega (arith, whole, number_whole m s fits))) in
       ap (take (length (part (4096 * n) 4096 (file_of s.files name).bytes))) is_block ∙ block_told m s fits name is_slot

@@ -1,6 +1,9 @@
 -- A call that removes a file.
 use Rattle.std.proofs.Common.{rules}
-use Rattle.lis_store.proofs.Common.{◌≡◌, sym, ap, ◌∙◌, subst, ℕ, is_some, not, IsSome, Bool, true, false, cond, List, set, Some, Result, Err, arith, Meaning, Held, looked, Asks, slot_of, rec_at, rec_at-slot_of, Ext, Formula, FileRecord, NoFileHere, bitmap_start, State, Situation, Outcome, refused, rm, file_removed, Metadata, IsSaved, changed, GivesBack}
+use Rattle.lis_store.proofs.Common.{◌≡◌, sym, ap, ◌∙◌, subst, ℕ, is_some, not, IsSome, Bool, true, false, cond, List, Some, Result, Err, arith, Meaning, Held, looked, Asks, slot_of, rec_at, rec_at-slot_of, Ext, Formula, FileRecord, NoFileHere, State, Situation, Outcome, refused, rm, file_removed, Metadata, IsSaved, changed, GivesBack}
+use Rattle.lis_content.specs.Content.{marked, given as given_back}
+use Rattle.lis_model.proofs.Stored.{stored_bitmap}
+use Rattle.lis_kept.specs.Changes.{bitmap_homes}
 use Rattle.lis_store.specs.declared.change_fault.ChangeFault.{ChangeFault}
 use Rattle.lis_store.specs.declared.change_fault.ChangeFault.TheVariants.{Refused, Disk}
 use Rattle.lis_store.specs.Stored.{Stored, IsSound, StoreHolds}
@@ -77,7 +80,7 @@ module _ {old now : Stored} (view : old ≡ now) (sound : IsSound old) (unbroken
   unbroken = whole_view view unbroken_now
 
   pub form_given : AreInForm mid
-  form_given = form_taken old.metadata mid mid.taken gives.takes (in_form old sound)
+  form_given = form_taken old.metadata mid gives.blocks (given_back old.metadata.taken gives.blocks) gives.takes (in_form old sound)
 
   filed_given : rec_at mid.catalog slot ≡ Some rec
   filed_given = ap (λ (k : Metadata). rec_at k.catalog slot) gives.takes.metadata ∙ (found_there view sound name named).1
@@ -90,7 +93,7 @@ module _ {old now : Stored} (view : old ≡ now) (sound : IsSound old) (unbroken
     out = takes rec filed_given
 
     abbrev after_marks : List Bool
-    after_marks = set old.metadata.marks (bitmap_start old.metadata.limits) true
+    after_marks = marked old.metadata.marks (bitmap_homes old.metadata.limits gives.blocks)
 
     same_axioms : q.axioms ≡ old.metadata.axioms
     same_axioms = ap (λ (k : Metadata). k.axioms) (end_is slot rec mid q form_given out) ∙ ap (λ (k : Metadata). k.axioms) gives.takes.metadata
@@ -103,7 +106,7 @@ module _ {old now : Stored} (view : old ≡ now) (sound : IsSound old) (unbroken
       settles = λ after.
           settled_sound q old.journal (form_removed slot rec mid q form_given out) (pairs_same old.metadata q same_axioms sound.pairs) (sound.image ∙ ap image_shape (sym same_limits)) (sound.journal unbroken);
       limits = same_limits;
-      room = omega (arith, few_marked slot rec mid q form_given out, gives.takes.marks.few, none_marked old.metadata (sound.clean unbroken), sound.few unbroken);
+      room = omega (arith, few_marked slot rec mid q form_given out, gives.takes.marks.few, stored_bitmap old.metadata.limits sound.metadata.range, none_marked old.metadata (sound.clean unbroken), sound.few unbroken);
       edits = subst (λ (e : Ext). AreEditsFew e q.ext) (ap (λ (k : Metadata). k.ext) gives.takes.metadata) (few_edits slot rec mid q form_given out);
     }
 
@@ -115,8 +118,8 @@ module _ {old now : Stored} (view : old ≡ now) (sound : IsSound old) (unbroken
         let holds : StoreHolds old before base s = held_view view holds_now in
         let asks = (given rec (found_there view sound name named).1).1 in
         let at : ℕ → List ℕ = looked old.journal.staged holds.kept in
-        let gave = gives.given holds.kept holds.journal in
-        let ts = mid.taken in
+        let gave = ap (λ bs. given_back old.metadata.taken bs) (gives.told holds.kept holds.journal) in
+        let ts = given_back old.metadata.taken gives.blocks in
         let R : Metadata → Type 0 = λ k. AreInForm k → TakesOut slot rec k q → IsSaved k at → IsReady q at (file_removed s rec.name) in
         let ready : IsReady q at (file_removed s rec.name) =
         subst R (sym gives.takes.metadata) (λ form out saved. ready_removed slot rec old.metadata ts after_marks q form out sound.metadata at s holds.tells gave saved)

@@ -1,17 +1,22 @@
 -- Bytes that are put into blocks instead of others, and what the disk keeps meanwhile.
 use Rattle.std.proofs.Common.{rules}
 use Rattle.std.proofs.Common.{OnErr}
-use Rattle.lis_store.proofs.Common.{◌≡◌, refl, sym, ap, ◌∙◌, subst, ℕ, true, false, Bool, List, [], ◌∷◌, length, Some, None, Result, Ok, Err, IsTrue, set, get_or-set_same, arith, both_ways, false_from_ne_true, ArrayVec, Meaning, Leaves, Held, block, looked, Fits, KeepsPast, are_free, has_home, is_large, Asks, homes_of, stays_marked, among_homes, FileRecord, bitmap_start, data_start, Metadata, is_marked, AreSound, blocks_told, Puts, leaves_weaken, leaves_then, is_among, given, marked, GivesBack}
+use Rattle.lis_store.proofs.Common.{◌≡◌, refl, sym, ap, ◌∙◌, subst, ℕ, ◌+◌, ◌<◌, ◌≤◌, ◌||◌, ◌++◌, true, false, Bool, List, [], length, count_by, Some, None, Result, Ok, Err, IsTrue, arith, both_ways, false_from_ne_true, ArrayVec, Meaning, Leaves, Held, block, looked, Fits, KeepsPast, are_free, has_home, is_large, Asks, homes_of, stays_marked, among_homes, FileRecord, data_start, Metadata, is_marked, marked_count, has_number, among_from_number, number_from_among, AreSound, blocks_told, Puts, leaves_weaken, leaves_then, is_among, given, marked, GivesBack}
 use Rattle.lis_journal.specs.Images.{StandsBut}
 use Rattle.lis_journal.proofs.Fitting.{fits_but}
 use Rattle.lis_journal.proofs.Phases.{stands_less}
-use Rattle.lis_kept.specs.Changes.{Marks, Takes}
+use Rattle.lis_kept.specs.Areas.{bitmap_home}
+use Rattle.lis_kept.specs.Changes.{Marks, Takes, bitmap_homes}
 use Rattle.lis_store.specs.declared.change_fault.ChangeFault.{ChangeFault}
 use Rattle.lis_store.specs.declared.change_fault.ChangeFault.TheVariants.{Refused, Disk}
 use Rattle.lis_store.specs.Contents.{ContentTorn, IsRenewed, Renews, ContentPut, ContentGiven, ContentRenewed}
 use Rattle.lis_store.specs.Contents.Trades.{First, Last}
 use Rattle.lis_journal.specs.declared.layout.Layout.{Layout}
 use Rattle.lis_kept.proofs.Image.{same_layout}
+use Rattle.lis_model.specs.Image.{bitmap_blocks}
+use Rattle.lis_store.proofs.Housed.{free_number}
+use Rattle.lis_store.proofs.Marks.{taken_after}
+use Rattle.lis_kept.proofs.BitmapMarks.{home_among, marked_both, few_in_bitmap}
 
 -- ---- images
 -- what is kept in placed blocks does not count
@@ -31,27 +36,43 @@ unplaced_stands journal {m} {kept} more none fits image is =
     stands_less journal.layout journal.placed more kept image (λ n absent. ap (λ ns. is_among ns n) none) (fits_but journal fits image is)
 
 -- ---- blocks are taken, once or twice
-marked_bitmap : (p q : Metadata) → AreSound p → (ts : List Bool) → Takes ts p q → is_marked q (bitmap_start p.limits) ≡ true
-marked_bitmap p q sound ts takes = ap (λ (x : Metadata). is_marked x (bitmap_start p.limits)) takes.metadata ∙ get_or-set_same p.marks (bitmap_start p.limits) true false (omega (arith, sound.marks))
+-- the block of the bitmap that has the bit of a taken block is marked
+marked_bitmap : (p q : Metadata) → AreSound p → (bs : List ℕ) (ts : List Bool) → Takes bs ts p q → IsTrue (are_free p.taken bs) → (n : ℕ) → has_number bs n ≡ true → is_marked q (bitmap_home p.limits n) ≡ true
+marked_bitmap p q sound bs ts takes free n has =
+    let below : n < p.limits.blocks = omega (arith, (free_number p.taken bs n free has).0, sound.blocks) in
+    let homes = bitmap_homes p.limits bs in
+    let home = bitmap_home p.limits n in
+    let among = home_among p.limits bs n (among_from_number bs n has) below in
+    ap (λ (x : Metadata). is_marked x home) takes.metadata
+    ∙ (taken_after p.marks homes home (omega (arith, sound.marks, below))
+    ∙ ap (λ b. b || is_marked p home) (number_from_among homes home among))
 
-module _ (p mid q : Metadata) (sound : AreSound p) (ts us : List Bool) (one : Takes ts p mid) (two : Takes us mid q) where
+module _ (p mid q : Metadata) (sound : AreSound p) (bs cs : List ℕ) (ts us : List Bool) (one : Takes bs ts p mid) (two : Takes cs us mid q) where
   pub twice_metadata : q ≡ record p { taken = q.taken; marks = q.marks }
   twice_metadata = search (rules)
 
-  pub twice_marks : Marks 2 p q
-  twice_marks = record { saved = λ at saved. two.marks.saved at (one.marks.saved at saved); few = omega (arith, one.marks.few, two.marks.few) }
+  -- no more than the bitmap is marked
+  twice_few : marked_count q ≤ marked_count p + bitmap_blocks p.limits
+  twice_few =
+      let C : List Bool → ℕ = λ marks. count_by (λ (b : Bool). b) marks in
+      let are : q.marks ≡ marked p.marks (bitmap_homes p.limits (bs ++ cs)) =
+      ap (λ (x : Metadata). x.marks) two.metadata
+      ∙ (ap (λ (x : Metadata). marked x.marks (bitmap_homes x.limits cs)) one.metadata ∙ marked_both p.limits p.marks bs cs) in
+      omega (arith, ap C are, few_in_bitmap p.limits p.marks (bs ++ cs))
 
-  pub twice_bitmap : is_marked q (bitmap_start p.limits) ≡ true
-  twice_bitmap =
-      ap (λ (x : Metadata). is_marked x (bitmap_start p.limits)) two.metadata
-      ∙ stays_marked mid.marks (bitmap_start mid.limits ∷ []) (bitmap_start p.limits) (marked_bitmap p mid sound ts one)
+  pub twice_marks : Marks (bitmap_blocks p.limits) p q
+  twice_marks = record { saved = λ at saved. two.marks.saved at (one.marks.saved at saved); few = twice_few }
+
+  pub twice_bitmap : IsTrue (are_free p.taken bs) → (n : ℕ) → has_number bs n ≡ true → is_marked q (bitmap_home p.limits n) ≡ true
+  twice_bitmap free n has =
+      ap (λ (x : Metadata). is_marked x (bitmap_home p.limits n)) two.metadata
+      ∙ stays_marked mid.marks (bitmap_homes mid.limits cs) (bitmap_home p.limits n) (marked_bitmap p mid sound bs ts one free n has)
 
 -- ---- no blocks are freed
 pub renews_alone : (p q : Metadata) (bytes numbers : List ℕ) (old new : Held) (before after : Meaning) → AreSound p → Puts bytes numbers p q old new before after → Renews bytes numbers None p q old new before after
 renews_alone p q bytes numbers old new before after sound puts = record {
   metadata = subst (λ (x : Metadata). x ≡ record p { taken = x.taken; marks = x.marks }) (sym puts.takes.metadata) refl;
-  marks = record { saved = puts.takes.marks.saved; few = omega (arith, puts.takes.marks.few) };
-  bitmap = marked_bitmap p q sound (marked p.taken puts.blocks) puts.takes;
+  marks = puts.takes.marks;
   in_form = puts.in_form;
   below = puts.below;
   image = puts.image;
@@ -61,6 +82,7 @@ renews_alone p q bytes numbers old new before after sound puts = record {
   spare = puts.blocks;
   were_free = puts.fills.were_free;
   placed = puts.placed;
+  bitmap = marked_bitmap p q sound puts.blocks (marked p.taken puts.blocks) puts.takes puts.fills.were_free;
   moments = puts.moments;
   past = puts.fills.past;
   blocks = puts.blocks;
@@ -95,15 +117,15 @@ module _ (p q : Metadata) (ts ms : List Bool) (rec : FileRecord) (bytes numbers 
         lands = puts.lands kept asked_fits;
         stays = puts.stays kept asked_fits;
         trades =
-            let gave = gives.given kept fits in
-            First (subst (λ xs. IsTrue (are_free xs puts.blocks)) gave puts.fills.were_free) (ap (λ (x : Metadata). x.taken) puts.takes.metadata ∙ ap (λ xs. marked xs puts.blocks) gave);
+            let gave = ap (given p.taken) (gives.told kept fits) in
+            let freed_are : ts ≡ given p.taken (blocks_told p.limits (looked old.staged kept) rec) = ap (λ (x : Metadata). x.taken) gives.takes.metadata ∙ gave in
+            First (subst (λ xs. IsTrue (are_free xs puts.blocks)) freed_are puts.fills.were_free) (ap (λ (x : Metadata). x.taken) puts.takes.metadata ∙ ap (λ xs. marked xs puts.blocks) freed_are);
       }
 
   pub renews_first : Renews bytes numbers (Some rec) p q old new before after
   renews_first = record {
-    metadata = twice_metadata p freed q sound ts (marked ts puts.blocks) gives.takes puts.takes;
-    marks = twice_marks p freed q sound ts (marked ts puts.blocks) gives.takes puts.takes;
-    bitmap = twice_bitmap p freed q sound ts (marked ts puts.blocks) gives.takes puts.takes;
+    metadata = twice_metadata p freed q sound gives.blocks puts.blocks (given p.taken gives.blocks) (marked ts puts.blocks) gives.takes puts.takes;
+    marks = twice_marks p freed q sound gives.blocks puts.blocks (given p.taken gives.blocks) (marked ts puts.blocks) gives.takes puts.takes;
     in_form = puts.in_form;
     below = puts.below;
     image = puts.image;
@@ -113,6 +135,7 @@ module _ (p q : Metadata) (ts ms : List Bool) (rec : FileRecord) (bytes numbers 
     spare = [];
     were_free = refl;
     placed = λ n among. absurd (both_ways (is_among new.placed n) (ap (λ ns. is_among ns n) none_placed) among);
+    bitmap = λ n has. absurd (both_ways (has_number [] n) refl has);
     moments = first_moments;
     past = first_past;
     blocks = puts.blocks;
@@ -171,11 +194,33 @@ module _ (p : Metadata) (ts ms : List Bool) (bytes numbers : List ℕ) (old new 
           stays = puts.stays kept fits;
           trades =
               Last puts.fills.were_free
-              (gives.given landed.kept landed.fits ∙ ap (λ xs. given xs (blocks_told p.limits (looked new.staged landed.kept) rec)) (ap (λ (x : Metadata). x.taken) puts.takes.metadata));
+              (ap (λ (x : Metadata). x.taken) gives.takes.metadata
+              ∙ (ap (given ts) (gives.told landed.kept landed.fits)
+              ∙ ap (λ xs. given xs (blocks_told p.limits (looked new.staged landed.kept) rec)) (ap (λ (x : Metadata). x.taken) puts.takes.metadata)));
         }
 
     pub renews_last : Renews bytes numbers (Some rec) p q old new before after
-    renews_last = search (rules, twice_metadata, twice_marks, twice_bitmap, last_moments, last_past, last_renewed)
+    renews_last =
+        let freed = given ts gives.blocks in
+        record {
+          metadata = twice_metadata p put q sound puts.blocks gives.blocks (marked p.taken puts.blocks) freed puts.takes gives.takes;
+          marks = twice_marks p put q sound puts.blocks gives.blocks (marked p.taken puts.blocks) freed puts.takes gives.takes;
+          in_form = puts.in_form;
+          below = puts.below;
+          image = puts.image;
+          broken = puts.broken;
+          few_staged = puts.few_staged;
+          unplaced = puts.unplaced;
+          spare = puts.blocks;
+          were_free = puts.fills.were_free;
+          placed = puts.placed;
+          bitmap = twice_bitmap p put q sound puts.blocks gives.blocks (marked p.taken puts.blocks) freed puts.takes gives.takes puts.fills.were_free;
+          moments = last_moments;
+          past = last_past;
+          blocks = puts.blocks;
+          distinct = puts.fills.distinct;
+          renewed = last_renewed;
+        }
 
 -- ---- the blocks are not freed at all
 pub torn_first : (bytes : List ℕ) (p : Metadata) (old : Held) (before after : Meaning) → old.placed ≡ [] → Asks old before after → ContentTorn bytes p p old old before after
@@ -187,21 +232,21 @@ pub renews_given : (p mid q : Metadata) (rec : FileRecord) (bytes numbers : List
 renews_given p mid q rec bytes numbers old new before asked after sound unplaced small gives asks puts =
     let P : Metadata → Type 0 = λ x. GivesBack rec p x old before → Puts bytes numbers x q old new asked after → Renews bytes numbers (Some rec) p q old new before after in
     subst P (sym gives.takes.metadata)
-    (λ gave put. renews_first p q mid.taken (set p.marks (bitmap_start p.limits) true) rec bytes numbers old new before asked after sound unplaced small gave asks put) gives puts
+    (λ gave put. renews_first p q (given p.taken gives.blocks) (marked p.marks (bitmap_homes p.limits gives.blocks)) rec bytes numbers old new before asked after sound unplaced small gave asks put) gives puts
 
 pub renews_placed : (p mid q : Metadata) (rec : FileRecord) (bytes numbers : List ℕ) (old new : Held) (before placed after : Meaning) → AreSound p
     → Puts bytes numbers p mid old new before placed → GivesBack rec mid q new placed → Asks new placed after → Renews bytes numbers (Some rec) p q old new before after
 renews_placed p mid q rec bytes numbers old new before placed after sound puts gives asks =
     let P : Metadata → Type 0 = λ x. Puts bytes numbers p x old new before placed → GivesBack rec x q new placed → Renews bytes numbers (Some rec) p q old new before after in
     subst P (sym puts.takes.metadata)
-    (λ put gave. renews_last p (marked p.taken puts.blocks) (set p.marks (bitmap_start p.limits) true) bytes numbers old new before placed after sound put asks q rec gave) puts gives
+    (λ put gave. renews_last p (marked p.taken puts.blocks) (marked p.marks (bitmap_homes p.limits puts.blocks)) bytes numbers old new before placed after sound put asks q rec gave) puts gives
 
 pub torn_placed : (p mid q : Metadata) (bytes numbers : List ℕ) (old new : Held) (before placed after : Meaning) → AreSound p
     → Puts bytes numbers p mid old new before placed → q ≡ mid → Asks new placed after → ContentTorn bytes p q old new before after
 torn_placed p mid q bytes numbers old new before placed after sound puts same asks =
     let P : Metadata → Type 0 = λ x. Puts bytes numbers p x old new before placed → ContentTorn bytes p x old new before after in
     let T : Metadata → Type 0 = λ x. ContentTorn bytes p x old new before after in
-    subst T (sym same) (subst P (sym puts.takes.metadata) (λ put. torn_last p (marked p.taken puts.blocks) (set p.marks (bitmap_start p.limits) true) bytes numbers old new before placed after sound put asks) puts)
+    subst T (sym same) (subst P (sym puts.takes.metadata) (λ put. torn_last p (marked p.taken puts.blocks) (marked p.marks (bitmap_homes p.limits puts.blocks)) bytes numbers old new before placed after sound put asks) puts)
 
 -- ---- how it ends
 pub lost_last : (T : Type 0) (p mid q : Metadata) (rec : FileRecord) (bytes numbers : List ℕ) (old new : Held) (before placed after : Meaning) (change : ChangeFault) (result : Result (ArrayVec ℕ) ChangeFault) → AreSound p

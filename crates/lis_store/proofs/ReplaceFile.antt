@@ -1,6 +1,6 @@
 -- Calls in which a file is put into a free slot, or replaces another.
 use Rattle.std.proofs.Common.{rules}
-use Rattle.lis_store.proofs.Common.{◌≡◌, refl, sym, ap, ◌∙◌, subst, ℕ, ◌+◌, ◌≤◌, ◌==◌, ◌&&◌, not, nat_lt, is_some, true, false, Bool, IsSome, IfSome, List, [], length, Option, Some, None, Result, arith, list_all, and_parts, eqb-true, Meaning, Held, Fits, KeepsPast, looked, Filed, slot_of, rec_at, is_large, word_of, same_word, FileRecord, are_blocks, is_record, Limits, bitmap_start, data_start, State, File, blocks_taken, used_blocks, derived_words, new_file, file_added, file_removed, file_replaced, file_limit, Situation, Outcome, same_word_decides, Metadata, IsSaved, is_marked, marked_count, is_sound_record, AreSound, bytes_told, blocks_told, Tells, record_in_form, filed_at_slot, among_from_any, leaves_weaken, StandsBut, changed, file_told}
+use Rattle.lis_store.proofs.Common.{◌≡◌, refl, sym, ap, ◌∙◌, subst, ℕ, ◌+◌, ◌-◌, ◌<◌, ◌≤◌, ◌==◌, ◌&&◌, not, nat_lt, is_some, true, false, Bool, IsSome, IfSome, List, [], length, Option, Some, None, Result, arith, list_all, and_parts, eqb-true, Meaning, Held, Fits, KeepsPast, looked, Filed, slot_of, rec_at, is_large, word_of, same_word, FileRecord, are_blocks, is_record, Limits, data_start, image_blocks, State, File, blocks_taken, used_blocks, derived_words, new_file, file_added, file_removed, file_replaced, file_limit, Situation, Outcome, same_word_decides, Metadata, IsSaved, is_marked, marked_count, is_sound_record, AreSound, bytes_told, blocks_told, Tells, record_in_form, filed_at_slot, among_from_any, leaves_weaken, StandsBut, is_among, changed, file_told, number_from_among}
 use Rattle.lis_catalog.proofs.Laws.{slot_of-rec_at}
 use Rattle.lis_laws.proofs.Counts.{filter_sum_drops}
 use Rattle.lis_store.specs.declared.change_fault.ChangeFault.{ChangeFault}
@@ -17,7 +17,7 @@ use Rattle.lis_store.proofs.Cleaned.{none_marked}
 use Rattle.lis_store.proofs.Elsewhere.{saved_there, no_home_before}
 use Rattle.lis_store.proofs.StoreSays.{size_of_filed, file_of_filed}
 use Rattle.lis_store.proofs.FreeBlocks.{used_told, version_told}
-use Rattle.lis_store.proofs.Housed.{IsHoused, stay_housed, trades_housed, alone_housed}
+use Rattle.lis_store.proofs.Housed.{IsHoused, free_number, stay_housed, trades_housed, alone_housed}
 use Rattle.lis_store.proofs.Renewed.{stands_same}
 use Rattle.lis_store.proofs.Refiled.{form_refiled, limits_refiled, axioms_refiled, saved_refiled, marked_refiled, edits_refiled, few_refiled, tells_refiled, may_there}
 use Rattle.lis_store.proofs.Retaken.{in_form, settled_sound, retaken, form_retaken}
@@ -27,8 +27,9 @@ use Rattle.lis_store.proofs.ToldBy.{ToldBy, told_held}
 use Rattle.lis_store.proofs.WriteFile.{found_there, written_enough}
 use Rattle.lis_journal.specs.Journal.{shape_of}
 use Rattle.lis_kept.specs.Image.{image_shape}
-use Rattle.lis_model.proofs.Stored.{stored_limit_le}
-use Rattle.lis_kept.proofs.Image.{same_layout, same_blocks, same_staged}
+use Rattle.lis_model.proofs.Stored.{stored_limit_le, stored_bitmap}
+use Rattle.lis_kept.specs.Areas.{bitmap_home}
+use Rattle.lis_kept.proofs.Image.{same_layout, same_blocks, same_staged, stored_staged}
 
 may_retaken : (p : Metadata) (taken marks : List Bool) (slot : ℕ) (rec : FileRecord) (draft : Draft) → MayReplace p slot rec draft → MayReplace (retaken p taken marks) slot rec draft
 may_retaken p taken marks slot rec draft may = search (rules)
@@ -65,8 +66,8 @@ module _ (old : Stored) (taken marks : List Bool) (q : Metadata) (j : Held) (gon
   pub replaced_marks : marked_count q ≤ marked_count p + 513
   replaced_marks = few_refiled gone form again
 
-  pub replaced_bitmap : is_marked p (bitmap_start o.limits) ≡ true → is_marked q (bitmap_start q.limits) ≡ true
-  replaced_bitmap is = ap (λ (x : Limits). is_marked q (bitmap_start x)) limits_then ∙ marked_refiled again (bitmap_start o.limits) is
+  pub replaced_bitmap : (n : ℕ) → is_marked p (bitmap_home o.limits n) ≡ true → is_marked q (bitmap_home q.limits n) ≡ true
+  replaced_bitmap n is = ap (λ (x : Limits). is_marked q (bitmap_home x n)) limits_then ∙ marked_refiled again (bitmap_home o.limits n) is
 
   pub replaced_edits : AreEditsFew o.ext q.ext
   replaced_edits = edits_refiled again
@@ -111,6 +112,10 @@ anew_there {old} same slot draft may = may_there slot old.metadata draft (subst 
 
 pub anew_small : {old now : Stored} → old ≡ now → (slot : Option ℕ) (draft : Draft) → MayPut now.metadata slot draft → draft.size ≤ file_limit old.metadata.limits
 anew_small {old} same slot draft may = put_small old.metadata slot draft (subst (λ (o : Stored). MayPut o.metadata slot draft) (sym same) may)
+
+-- one more content can be staged
+pub anew_room : {old : Stored} → IsSound old → old.is_broken ≡ false → length old.journal.staged + 16 ≤ old.journal.capacity.staged
+anew_room {old} sound unbroken = omega (arith, sound.few unbroken, same_staged sound.image, stored_staged old.metadata.limits sound.metadata.range)
 
 -- What a call requires is about the store's value `now`, and what is proved is about its metadata, `old`.
 module _ {old now : Stored} (same : old ≡ now) {mid : Metadata} {j : Held} (slot : Option ℕ) (name : List ℕ) (assigned : List (List ℕ)) (bytes numbers : List ℕ) (sound : IsSound old) (sound_mid : AreSound mid)
@@ -165,6 +170,13 @@ module _ {old now : Stored} (same : old ≡ now) {mid : Metadata} {j : Held} (sl
     pub written_edits : AreEditsFew k.ext q.ext
     written_edits = replaced_edits old mid.taken mid.marks q j goes (draft_of file) numbers sound sound_renewed again
 
+    -- what is placed is within the image
+    pub written_within : (n : ℕ) → is_among j.placed n ≡ true → n < image_blocks q.limits
+    written_within n among =
+        let at = among_from_any (λ b. data_start k.limits + b == n) renews.spare (renews.placed n among) in
+        let free = free_number k.taken renews.spare at.0 renews.were_free (number_from_among renews.spare at.0 at.1) in
+        omega (arith, eqb-true (data_start k.limits + at.0) n at.2, free.0, sound.metadata.blocks, ap image_blocks written_same)
+
     module _ (unbroken_now : now.is_broken ≡ false) where
       unbroken : old.is_broken ≡ false
       unbroken = ap (λ (o : Stored). o.is_broken) same ∙ unbroken_now
@@ -179,13 +191,15 @@ module _ {old now : Stored} (same : old ≡ now) {mid : Metadata} {j : Held} (sl
         unbroken = written_unbroken;
         placed = λ n among.
             let at = among_from_any (λ b. data_start k.limits + b == n) renews.spare (renews.placed n among) in
-            let bitmap = subst (λ (x : Metadata). is_marked x (bitmap_start k.limits) ≡ true) renews.metadata renews.bitmap in (
-              omega (arith, eqb-true (data_start k.limits + at.0) n at.2, ap data_start written_same),
-              replaced_bitmap old mid.taken mid.marks q j goes (draft_of file) numbers sound sound_renewed again bitmap,
+            let home = eqb-true (data_start k.limits + at.0) n at.2 in
+            let bitmap = subst (λ (x : Metadata). is_marked x (bitmap_home k.limits at.0) ≡ true) renews.metadata (renews.bitmap at.0 (number_from_among renews.spare at.0 at.1)) in
+            let block : at.0 ≡ n - data_start q.limits = omega (arith, home, ap data_start written_same) in (
+              omega (arith, home, ap data_start written_same),
+              ap (λ b. is_marked q (bitmap_home q.limits b)) (sym block) ∙ replaced_bitmap old mid.taken mid.marks q j goes (draft_of file) numbers sound sound_renewed again at.0 bitmap,
             );
         room =
             let some = replaced_marks old mid.taken mid.marks q j goes (draft_of file) numbers sound sound_renewed again in
-            omega (arith, some, sound.few unbroken, renews.few_staged, renews.marks.few, none_marked k (sound.clean unbroken), ap (λ (x : Metadata). marked_count x) renews.metadata, same_staged (renews.image ∙ sound.image));
+            omega (arith, some, sound.few unbroken, renews.few_staged, renews.marks.few, stored_bitmap k.limits sound.metadata.range, stored_staged k.limits sound.metadata.range, none_marked k (sound.clean unbroken), ap (λ (x : Metadata). marked_count x) renews.metadata, same_staged (renews.image ∙ sound.image));
       }
 
     -- from a state that memory represented

@@ -1,9 +1,10 @@
 -- How metadata is saved, and what is held back is committed.
 use Rattle.std.proofs.Common.{rules}
-use Rattle.lis_store.proofs.Common.{◌≡◌, ◌⊎◌, ℕ, zero, suc, ◌+◌, ◌<◌, ◌≤◌, ◌||◌, Bool, true, false, List, [], ◌∷◌, length, Result, Ok, Err, refl, sym, ap, ◌∙◌, subst, inl, inr, IsTrue, arith, eq-eqb, false_from_ne_true, contains_from_among, Meaning, Leaves, Held, are_whole, Fits, KeepsPast, looked, bitmap_start, data_start, image_blocks, State, Situation, Outcome, Metadata, IsWritten, AreSound, Tells, leaves_weaken, HomeBlock, StandsBut, is_among, changed}
+use Rattle.lis_store.proofs.Common.{◌≡◌, ◌⊎◌, ℕ, zero, suc, ◌+◌, ◌-◌, ◌<◌, ◌≤◌, ◌||◌, Bool, true, false, List, [], ◌∷◌, length, Result, Ok, Err, refl, sym, ap, ◌∙◌, subst, inl, inr, IsTrue, arith, eq-eqb, false_from_ne_true, contains_from_among, Meaning, Leaves, Held, are_whole, Fits, KeepsPast, looked, data_start, image_blocks, State, Situation, Outcome, Metadata, IsWritten, AreSound, Tells, leaves_weaken, HomeBlock, StandsBut, is_among, changed}
 use Rattle.lis_ports.proofs.Moments.{leaves_none}
 use Rattle.lis_journal.specs.Images.{StandsFor, StandsForAllOrNone}
 use Rattle.lis_model.specs.Image.{properties_start}
+use Rattle.lis_kept.specs.Areas.{bitmap_home}
 use Rattle.lis_kept.specs.Staging.{Stages}
 use Rattle.lis_store.specs.declared.change_fault.ChangeFault.{ChangeFault}
 use Rattle.lis_store.specs.declared.change_fault.ChangeFault.TheVariants.{Refused, Disk}
@@ -60,17 +61,18 @@ none_are_placed p j none n among = absurd (let e : true ≡ false = sym among �
 pub not_placed : (p : Metadata) (j : Held) → ArePlaced p j → (n : ℕ) → n < data_start p.limits → is_among j.placed n ≡ false
 not_placed p j are n lt = false_from_ne_true (is_among j.placed n) (λ among. omega (arith, lt, (are n among).0))
 
--- If at most `most` blocks are staged, none is placed: if one were placed, `most` would be 0 and the block of the bitmap staged.
-pub none_placed : (p : Metadata) (j mid : Held) (most : ℕ) → ArePlaced p j → Stages p j mid → (0 < most → j.placed ≡ []) → length mid.staged ≤ most → mid.placed ≡ []
-none_placed p j mid zero are stages some few = by j.placed refl
+-- If at most `most` blocks are staged, none is placed: if one were placed, `most` would be 0 and the block of the bitmap with its bit staged.
+pub none_placed : (p : Metadata) (j mid : Held) (most : ℕ) → ArePlaced p j → (most ≡ 0 → (n : ℕ) → is_among j.placed n ≡ true → n < image_blocks p.limits) → Stages p j mid → (0 < most → j.placed ≡ []) → length mid.staged ≤ most → mid.placed ≡ []
+none_placed p j mid zero are within stages some few = by j.placed refl
   where
     by : (ns : List ℕ) → j.placed ≡ ns → mid.placed ≡ []
     by [] none = stages.placed ∙ none
     by (n ∷ ns) is =
         let there : is_among j.placed n ≡ true = ap (λ ms. is_among ms n) is ∙ ap (λ b. b || is_among ns n) (eq-eqb n n refl) in
-        let any : 0 < length mid.staged = stages.some (bitmap_start p.limits) (omega arith) (omega arith) (are n there).1 in
+        let home = are n there in
+        let any : 0 < length mid.staged = stages.some (bitmap_home p.limits (n - data_start p.limits)) (omega arith) (omega (arith, within refl n there, home.0)) home.1 in
         absurd (omega (arith, any, few))
-none_placed p j mid (suc most) are stages some few = stages.placed ∙ some (omega arith)
+none_placed p j mid (suc most) are within stages some few = stages.placed ∙ some (omega arith)
 
 -- ---- what the metadata represents and spells without its marks
 written_clean : (p : Metadata) (at : ℕ → List ℕ) → IsWritten p at → IsWritten (clean p) at
@@ -93,7 +95,7 @@ module _ (p : Metadata) (j mid : Held) (before : Meaning) (stages : Stages p j m
   next_is : t ≡ next
   next_is = sym (ap (λ (o : Outcome). o.next.state) is)
 
-  same : (n : ℕ) → (n < properties_start) ⊎ (data_start p.limits ≤ n) → there n ≡ looked j.staged kept n
+  same : (n : ℕ) → (n < properties_start p.limits) ⊎ (data_start p.limits ≤ n) → there n ≡ looked j.staged kept n
   same n out = stages.others n (kept n) out
 
   tells : Tells (clean p) there next

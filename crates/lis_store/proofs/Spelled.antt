@@ -408,7 +408,7 @@ module _ (k : Metadata) (at : ℕ → List ℕ) (sound : AreSound k) (free : Fre
         subst (λ (r : FileRecord). HasIndex k.limits at r) f.2 (tells.indexed f.0 (contains_from_among k.catalog.entries f.0 f.1));
     blocks = all_in_image;
     each_block_once = distinct_permuted (used k sound at) (all_blocks k.limits at (all_records (files_told k))) (blocks_permuted k sound at) used_once;
-    bitmap = written Bitmap 0 (omega arith) ∙ ap bitmap_bytes taken_told;
+    bitmap = λ n lt. written Bitmap n lt ∙ ap (bitmap_bytes n) taken_told;
     rows = rows_are;
   }
 

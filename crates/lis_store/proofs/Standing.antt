@@ -3,7 +3,7 @@ use Rattle.std.proofs.Common.{rules}
 use Rattle.lis_store.proofs.Common.{◌≡◌, refl, ap, ◌∙◌, subst, ℕ, List, [], Option, Some, None, IsTrue, IsSomeAnd, arith, Meaning, block, replayed, are_free, homes_of, among_homes, SpellsSuper, data_start, State, Metadata, IsWritten, AreSound, FreeSlotsAreEmpty, Tells, Limits, are_stored}
 use Rattle.lis_ports.specs.Runs.{Always}
 use Rattle.lis_ports.proofs.Always.{always_weaken}
-use Rattle.lis_journal.specs.Images.{KeepsBut, StandsFor as KeptBy, StandsBut}
+use Rattle.lis_journal.specs.Images.{IsOutside, KeepsBut, StandsFor as KeptBy, StandsBut}
 use Rattle.lis_journal.proofs.Fitting.{fits_stand, replayed-front}
 use Rattle.lis_store.specs.Stands.{Stands}
 use Rattle.lis_store.specs.Stored.{Stored, PairsAreApart, IsSound, StoreFits}
@@ -12,6 +12,7 @@ use Rattle.lis_store.proofs.Spelled.{contents_of, tells_spells}
 use Rattle.lis_kept.specs.Image.{image_layout}
 use Rattle.lis_journal.specs.declared.layout.Layout.{Layout}
 use Rattle.lis_kept.proofs.Image.{same_layout}
+use Rattle.lis_kept.proofs.InArea.{some_properties}
 
 -- If memory represents a state by these blocks, so does each image whose replayed image has them, whatever it has in free blocks.
 module _ (k : Metadata) (at : ℕ → List ℕ) (s : State) (sound : AreSound k) (empty : FreeSlotsAreEmpty k) (pairs : PairsAreApart k) (tells : Tells k at s) (written : IsWritten k at)
@@ -22,8 +23,11 @@ module _ (k : Metadata) (at : ℕ → List ℕ) (s : State) (sound : AreSound k)
   limits_are : k.limits ≡ s.limits
   limits_are = ap (λ (t : State). t.limits) tells.state
 
+  range_is : IsTrue (are_stored s.limits)
+  range_is = subst (λ (l : Limits). IsTrue (are_stored l)) limits_are sound.range
+
   same_replay : (replay : List ℕ) → KeepsBut (image_layout s.limits) placed at replay → AreSameBut k blocks at (λ n. block n replay)
-  same_replay replay keeps n out none = keeps.same n out (among_homes (data_start k.limits) blocks n ∙ none)
+  same_replay replay keeps n out none = keeps.same n (subst (λ (l : Limits). IsOutside (image_layout l) n) limits_are out) (among_homes (data_start k.limits) blocks n ∙ none)
 
   pub told_stands : (image : List ℕ) → StandsBut (image_layout s.limits) placed at image → Stands image s
   unfolding StandsBut Stands
@@ -36,8 +40,8 @@ module _ (k : Metadata) (at : ℕ → List ℕ) (s : State) (sound : AreSound k)
           let same = same_replay r keeps in
           let tells_then = tells_elsewhere k blocks at there sound free same s tells in
           record {
-            range = subst (λ (l : Limits). IsTrue (are_stored l)) limits_are sound.range;
-            super = subst (λ (bytes : List ℕ). SpellsSuper s.limits bytes) (replayed-front (image_layout s.limits) image r (omega arith) but.0 is) tells_then.super;
+            range = range_is;
+            super = subst (λ (bytes : List ℕ). SpellsSuper s.limits bytes) (replayed-front (image_layout s.limits) image r (omega (arith, some_properties s.limits range_is)) but.0 is) tells_then.super;
             long = but.0;
             replay = r;
             replays = is;

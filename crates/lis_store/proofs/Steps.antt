@@ -1,8 +1,10 @@
 -- Contents that are put or freed before a change is saved: what is kept then, and what images represent meanwhile.
 pub use Rattle.lis_store.proofs.Retaken.{sound_lost}
-use Rattle.lis_store.proofs.Common.{rules, ◌≡◌, ◌⊎◌, sym, ap, ◌∙◌, subst, inl, inr, ℕ, true, false, Bool, List, [], length, set, Result, Err, length-set, Meaning, Leaves, Held, KeepsPast, block, are_free, has_home, is_large, Asks, homes_of, among_homes, bitmap_start, data_start, image_blocks, State, Situation, Outcome, Metadata, leaves_weaken, leaves_then, StandsBut, is_among}
+use Rattle.lis_store.proofs.Common.{rules, ◌≡◌, ◌⊎◌, sym, ap, ◌∙◌, subst, inl, inr, ℕ, true, false, Bool, List, [], length, Result, Err, Meaning, Leaves, Held, KeepsPast, block, are_free, has_home, is_large, Asks, homes_of, among_homes, data_start, image_blocks, State, Situation, Outcome, Metadata, leaves_weaken, leaves_then, StandsBut, is_among}
 use Rattle.lis_journal.proofs.Fitting.{fits_stand}
-use Rattle.lis_kept.specs.Changes.{Takes}
+use Rattle.lis_content.specs.Content.{marked}
+use Rattle.lis_content.proofs.Numbers.{length-marked}
+use Rattle.lis_kept.specs.Changes.{Takes, bitmap_homes}
 use Rattle.lis_store.specs.declared.change_fault.ChangeFault.{ChangeFault}
 use Rattle.lis_store.specs.declared.change_fault.ChangeFault.TheVariants.{Disk}
 use Rattle.lis_store.specs.Stands.{Stands}
@@ -21,11 +23,11 @@ use Rattle.lis_kept.proofs.Image.{same_blocks}
 
 -- ---- memory
 -- it is well formed whatever blocks are taken
-pub form_taken : (o mid : Metadata) (taken : List Bool) → Takes taken o mid → AreInForm o → AreInForm mid
-form_taken o mid taken takes form =
-    let marks = set o.marks (bitmap_start o.limits) true in
+pub form_taken : (o mid : Metadata) (blocks : List ℕ) (taken : List Bool) → Takes blocks taken o mid → AreInForm o → AreInForm mid
+form_taken o mid blocks taken takes form =
+    let marks = marked o.marks (bitmap_homes o.limits blocks) in
     subst (λ (k : Metadata). AreInForm k) (sym takes.metadata)
-    (form_retaken o taken marks (sound_retaken o taken marks form.sound takes.len (length-set o.marks (bitmap_start o.limits) true)) form)
+    (form_retaken o taken marks (sound_retaken o taken marks form.sound takes.len (length-marked o.marks (bitmap_homes o.limits blocks))) form)
 
 -- pairs stay distinct if the axioms stay
 pub pairs_same : (o q : Metadata) → q.axioms ≡ o.axioms → PairsAreApart o → PairsAreApart q

@@ -1,8 +1,9 @@
 //! The end of every change: it is committed, or held back.
 
-ghost use Rattle.std.specs.Prelude.{◌≡◌, ◌<◌, ◌≤◌, false, [], Ok, length, OnOk};
-ghost use Rattle.lis_journal.specs.Images.{JournalIsUsable};
+ghost use Rattle.std.specs.Prelude.{◌≡◌, ℕ, ◌<◌, ◌≤◌, true, false, [], Ok, length, OnOk};
+ghost use Rattle.lis_journal.specs.Images.{JournalIsUsable, is_among};
 ghost use Rattle.lis_content.specs.Large.{is_large};
+ghost use Rattle.lis_model.specs.Image.{image_blocks};
 ghost use Rattle.lis_store.specs.Stored.{IsUsable};
 ghost use Rattle.lis_store.specs.Changes.{ChangesDisk, EndsUnrefused};
 ghost use Rattle.lis_store.specs.Memory.{stored};
@@ -55,6 +56,7 @@ impl Memory {
         requires ready { MayBeSaved (stored self.old) }
         requires usable { IsUsable (stored self.old) (D.meaning disk.old) }
         requires unplaced { 0 < most → self.old.journal.placed ≡ [] }
+        requires within { most ≡ 0 → (n : ℕ) → is_among self.old.journal.placed n ≡ true → n < image_blocks self.old.metadata.limits }
         requires few { most ≤ MOST_HELD }
         ensures saved { SaveKeeps (stored self.old) (stored self.new) result }
         ensures saves { Saves self.old.metadata self.old.journal (stored self.new) (D.meaning disk.old) (D.meaning disk.new) result }

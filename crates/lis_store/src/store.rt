@@ -1,6 +1,6 @@
 //! A store: what memory keeps of an image, its journal, and the calls that change both.
 
-ghost use Rattle.std.specs.Prelude.{◌≡◌, ℕ, ◌*◌, ◌<◌, List, false, is_some, [], length, take, Some, Ok, Err, IsTrue, OnOk, IfSome, IsSomeAnd};
+ghost use Rattle.std.specs.Prelude.{◌≡◌, ℕ, ◌+◌, ◌*◌, ◌<◌, List, false, is_some, [], length, take, Some, Ok, Err, IsTrue, OnOk, IfSome, IsSomeAnd};
 ghost use Rattle.lis_ports.specs.Bytes.{part};
 ghost use Rattle.lis_ports.specs.Calls.{ReadsDisk};
 ghost use Rattle.lis_catalog.specs.Catalog.{slot_of, rec_at};

@@ -10,6 +10,6 @@ invariant-loop-n g l = record {
   reading : Reading {E = Failed} l.store (g.D.Disk.meaning l.fn.disk) (g.D.Disk.meaning l.disk) (Ok tt);
   whole : length l.block ≡ 4096;
   index : length l.index ≡ 4096;
-  held : (g.D.Disk.meaning l.fn.disk).is_honest ≡ true → IsIndex l.store (g.D.Disk.meaning l.fn.disk).bytes l.slot l.index;
+  held : (g.D.Disk.meaning l.fn.disk).is_honest ≡ true → IsIndex l.store (g.D.Disk.meaning l.fn.disk).bytes l.slot l.n l.index;
   loaded : IsLoaded l.store l.slot l.size l.n (g.D.Disk.meaning l.fn.disk) l.bytes;
 }

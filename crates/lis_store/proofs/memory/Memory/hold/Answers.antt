@@ -41,7 +41,7 @@ returns-clause-saved g c =
     let sound =
     sound_held old.metadata old.journal c.stage.new.journal (c.requires.ready.settles c.stage.ensures.sound) staged.image c.settle.new.self old.is_broken c.settle.ensures.settled
     (staged.broken ∙ c.requires.ready.unbroken) (omega (arith, c.requires.few)) c.staged.ensures.whole
-    (none_placed old.metadata old.journal c.stage.new.journal c.args.most c.requires.ready.placed staged c.requires.unplaced (omega arith)) in
+    (none_placed old.metadata old.journal c.stage.new.journal c.args.most c.requires.ready.placed c.requires.within staged c.requires.unplaced (omega arith)) in
     save_keeps (stored old) _ sound c.settle.ensures.settled staged.image c.requires.usable.unbroken
 
 pub returns-clause-saves : goal.returns-clause-saves

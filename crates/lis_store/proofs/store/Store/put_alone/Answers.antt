@@ -6,7 +6,7 @@ use Rattle.lis_store.specs.Instead.{free_for}
 use Rattle.lis_store.specs.ReplacingIn.{record_in, file_gone}
 use Rattle.lis_store.proofs.Keeping.{keeps_saved}
 use Rattle.lis_store.proofs.Large.{none_left}
-use Rattle.lis_store.proofs.ReplaceFile.{anew_there, anew_small, mid_form, mid_first, mid_in_form, mid_below, mid_short, mid_image, written_saves, written_same, written_edits, written_holds}
+use Rattle.lis_store.proofs.ReplaceFile.{anew_there, anew_small, anew_room, mid_form, mid_first, mid_in_form, mid_below, mid_short, mid_image, written_within, written_saves, written_same, written_edits, written_holds}
 use Rattle.lis_store.proofs.Torn.{lost_sound, lost_holds, lost_keeps}
 use Rattle.lis_store.proofs.store.Store.put_alone.Goals as goal
 use Rattle.lis_kept.proofs.Image.{same_blocks}
@@ -46,7 +46,7 @@ replace_record-requires g c = record {
 
 pub most_held-requires : goal.most_held-requires
 most_held-requires g c =
-    mid_short c.self.view_is c.args.slot c.args.name.now c.args.words.now.assigned.items c.args.payload.now c.in_ok-blocks.blocks.items c.self.invariant c.in_ok-blocks.ensures.ends.sound c.requires.may.0 c.in_ok-blocks.ensures.renewed
+    omega (arith, mid_short c.self.view_is c.args.slot c.args.name.now c.args.words.now.assigned.items c.args.payload.now c.in_ok-blocks.blocks.items c.self.invariant c.in_ok-blocks.ensures.ends.sound c.requires.may.0 c.in_ok-blocks.ensures.renewed)
 
 pub hold-requires : goal.hold-requires
 hold-requires g c = record {
@@ -56,6 +56,7 @@ hold-requires g c = record {
     long = omega (arith, c.requires.usable.long, same_blocks (mid_image c.self.view_is c.args.slot c.args.name.now c.args.words.now.assigned.items c.args.payload.now c.in_ok-blocks.blocks.items c.self.invariant c.in_ok-blocks.ensures.ends.sound c.requires.may.0 c.in_ok-blocks.ensures.renewed), c.in_ok-blocks.ensures.ends.disk.run.len);
   };
   unplaced = λ some. c.in_ok-blocks.ensures.renewed.unplaced (c.most_held.ensures.large some);
+  within = λ _. written_within c.self.view_is c.args.slot c.args.name.now c.args.words.now.assigned.items c.args.payload.now c.in_ok-blocks.blocks.items c.self.invariant c.in_ok-blocks.ensures.ends.sound c.requires.may.0 c.in_ok-blocks.ensures.renewed c.replace_record.ensures.refiles;
   few = search rules;
 }
 
@@ -80,4 +81,5 @@ put_anew-requires g c =
     let there = anew_there c.self.view_is c.args.slot (draft_of (new_file c.args.name.now c.args.words.now.assigned.items c.args.payload.now)) c.requires.may.0 in
     let short = anew_small c.self.view_is c.args.slot (draft_of (new_file c.args.name.now c.args.words.now.assigned.items c.args.payload.now)) c.requires.may.0 in
     let enough = subst (λ (k : Stored). blocks_taken k.metadata.limits.version (length c.args.payload.now) ≤ free_for k.metadata (record_in k.metadata c.args.slot)) (sym c.self.view_is) c.requires.may.1 in
-    search (rules, there, short, enough)
+    let room = anew_room c.self.invariant (ap (λ (k : Stored). k.is_broken) c.self.view_is ∙ c.requires.usable.unbroken) in
+    search (rules, there, short, enough, room)
