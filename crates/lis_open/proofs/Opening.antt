@@ -31,7 +31,7 @@ use Rattle.lis_kept.specs.Image.{image_layout}
 use Rattle.lis_journal.specs.declared.layout.Layout.{Layout}
 use Rattle.lis_model.specs.Image.{properties_start, bitmap_blocks}
 use Rattle.lis_model.specs.Ranges.{are_in_range}
-use Rattle.lis_model.proofs.Stored.{stored_range}
+use Rattle.lis_model.proofs.Stored.{stored_range, stored_bitmap}
 
 -- ---- slots and bytes depend on home blocks alone
 le_more : (m a b : ℕ) → m ≤ a → m ≤ a + b
@@ -116,7 +116,7 @@ kept_stands s contents at image range super spells keeps = by (replayed (image_l
     by None is none = absurd none
     by (Some r) is keep = record {
       range = range;
-      super = subst (λ (bytes : List ℕ). SpellsSuper s.limits bytes) (sym (keep.same 0 (inl refl)) ∙ replayed-front (image_layout s.limits) image r (omega arith) keeps.0 is) super;
+      super = subst (λ (bytes : List ℕ). SpellsSuper s.limits bytes) (sym (keep.same 0 (inl refl)) ∙ replayed-front (image_layout s.limits) image r (omega (arith, stored_bitmap s.limits range)) keeps.0 is) super;
       long = keeps.0;
       replay = r;
       replays = is;
@@ -217,7 +217,12 @@ module _ (old mid : Meaning) (same : IsUnchanged old mid) (len : mid.len ≡ old
   recovers_before new recovers = search (rules)
 
   left_before : (new : Meaning) (result : Result Stored OpenFault) → IsDiskRun mid new → OpenLeft mid new result → OpenLeft old new result
-  left_before new result run left = search (rules, recovers_before, unchanged_then)
+  left_before new (Ok store) run left = recovers_before new left
+  left_before new (Err (TooShort found need)) run left = unchanged_then run same left
+  left_before new (Err (Damaged spot)) run (inl none) = inl (λ told super. none.0 told (subst (λ bytes. HasSuper told bytes) (sym same.bytes) super), unchanged_then run same none.1)
+  left_before new (Err (Damaged spot)) run (inr recovers) = inr (recovers_before new recovers)
+  left_before new (Err DiskFault) run left = tt
+  left_before new (Err NoMemory) run left = unchanged_then run same left
 
   pub opening_before : (new : Meaning) → Leaves old mid old.images → Leaves mid new (InOpening mid) → Leaves old new (InOpening old)
   opening_before new first second =
@@ -280,7 +285,7 @@ module _ (old : Meaning) (limits : Limits) (super : HasSuper limits old.bytes) (
       by : (o : Option (List ℕ)) → o ≡ Some stands.replay → IsSomeAnd o (λ r. KeptBy (image_layout s.limits) (λ n. block n r) image) → Stands image s
       by o is kept =
           kept_stands s stands.contents (λ n. block n stands.replay) image stands.range
-          (subst (λ bytes. SpellsSuper s.limits bytes) (sym (replayed-front (image_layout s.limits) old.bytes stands.replay (omega arith) stands.long stands.replays)) stands.super)
+          (subst (λ bytes. SpellsSuper s.limits bytes) (sym (replayed-front (image_layout s.limits) old.bytes stands.replay (omega (arith, stored_bitmap s.limits stands.range)) stands.long stands.replays)) stands.super)
           stands.spells (at_replay o is kept)
 
   -- ---- the journal
@@ -330,7 +335,7 @@ module _ (old : Meaning) (limits : Limits) (super : HasSuper limits old.bytes) (
 
     super_kept : SpellsSuper limits (block 0 r)
     super_kept =
-        subst (λ bytes. SpellsSuper limits bytes) (sym (replayed-front (image_layout limits) old.bytes r (omega arith) (omega (arith, whole, long)) replays)) super.spelled
+        subst (λ bytes. SpellsSuper limits bytes) (sym (replayed-front (image_layout limits) old.bytes r (omega (arith, stored_bitmap limits super.range)) (omega (arith, whole, long)) replays)) super.spelled
 
     fails_in : (spot : Spot) → Fails limits kept spot → FailsIn old.bytes spot
     fails_in =

@@ -37,7 +37,7 @@ returns-then-are_free-clause-found g c = λ kept fits.
     let both : c.if-are_formed.value ≡ (formed && are_free taken blocks) = elim c.if-are_formed.branch [
       | then-are_formed w ↦
           w.value-is ∙ (w.are_free-then-are_formed.ensures ∙ (ap (are_free taken) w.as_slice-then-are_formed.ensures.value ∙ sym (ap (λ t. t && are_free taken blocks) w.if-are_formed.true)))
-      | else-are_formed w ↦ w.value-is ∙ sym (ap (λ t. t && are_free taken blocks) w.if-are_formed.false)
+      | else-are_formed w ↦ w.value-is ∙ (w.if-are_formed.false ∙ sym (ap (λ t. t && are_free taken blocks) w.if-are_formed.false))
     ] in
     subst (AreItsBlocks limits kept taken c.args.rec.now blocks)
     (ap (λ t. t && are_distinct blocks) (sym both ∙ c.if-are_free.true) ∙ sym (c.are_distinct.ensures ∙ ap are_distinct c.as_slice-then-are_free.ensures.value))
@@ -55,7 +55,7 @@ returns-else-are_free-clause-found g c = λ kept fits.
     let both : c.if-are_formed.value ≡ (formed && are_free taken blocks) = elim c.if-are_formed.branch [
       | then-are_formed w ↦
           w.value-is ∙ (w.are_free-then-are_formed.ensures ∙ (ap (are_free taken) w.as_slice-then-are_formed.ensures.value ∙ sym (ap (λ t. t && are_free taken blocks) w.if-are_formed.true)))
-      | else-are_formed w ↦ w.value-is ∙ sym (ap (λ t. t && are_free taken blocks) w.if-are_formed.false)
+      | else-are_formed w ↦ w.value-is ∙ (w.if-are_formed.false ∙ sym (ap (λ t. t && are_free taken blocks) w.if-are_formed.false))
     ] in
     subst (AreItsBlocks limits kept taken c.args.rec.now blocks) (ap (λ t. t && are_distinct blocks) (sym both ∙ c.if-are_free.false) ∙ sym c.if-are_free.false)
     (read_are limits kept taken c.args.rec.now c.laid_by.result.version c.laid_by.result.base c.laid_by.result.blocks.now c.laid_by.result.size c.args.journal.now.staged formed blocks
