@@ -21,3 +21,5 @@ mod mail;
 mod memdisk;
 #[cfg(test)]
 mod ports;
+#[cfg(test)]
+mod sets;
