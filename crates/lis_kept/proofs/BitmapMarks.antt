@@ -1,13 +1,16 @@
 -- The blocks of the bitmap that have the bits of some data blocks, and marks of them.
-use Rattle.std.proofs.Common.{arith}
+use Rattle.std.proofs.Common.{arith, nat_le, filter, add-one, drop-cons}
+use Rattle.std.proofs.lemmas.Bool.{le-ltb, le-leb, leb-true}
 use Rattle.std.proofs.lemmas.List.{map-append}
 use Rattle.std.proofs.lemmas.List.Elements.{filter-append}
 use Rattle.std.proofs.lemmas.List.Sums.{fold-append}
-use Rattle.lis_kept.proofs.Common.{◌≡◌, ◌⊎◌, ℕ, zero, suc, ◌+◌, ◌*◌, ◌/◌, ◌<◌, ◌≤◌, nat_lt, Bool, true, false, cond, List, [], ◌∷◌, ◌++◌, length, set, map, IsTrue, refl, sym, ap, ◌∙◌, subst, inl, inr, cases_lt, ltb-true, lt-ltb, sum_by-cons, get_or, drop, ◌-◌, cases_eq, get_or-set_same, get_or-set_other, get_or_past, length-set, list_all, all_among, Among, among_map, map_among, among_filter, filter_among, among_right, Limits, are_stored, bitmap_start, data_start, marked, length-marked, Ext}
+use Rattle.lis_kept.proofs.Common.{◌≡◌, ◌⊎◌, ℕ, zero, suc, ◌+◌, ◌*◌, ◌/◌, ◌<◌, ◌≤◌, nat_lt, Bool, true, false, cond, List, [], ◌∷◌, ◌++◌, length, set, map, IsTrue, refl, sym, ap, ◌∙◌, subst, inl, inr, cases_lt, ltb-true, lt-ltb, sum_by-cons, get_or, drop, ◌-◌, cases_eq, get_or-set_same, get_or-set_other, get_or_past, length-set, list_all, all_among, and_parts, and_from, ap₂, ◌&&◌, Among, among_map, map_among, among_filter, filter_among, among_right, Limits, are_stored, bitmap_start, data_start, marked, length-marked, Ext}
 use Rattle.lis_bits.proofs.Numbers.{bytes_same}
 use Rattle.lis_blockmap.specs.Bitmap.{is_taken, bitmap_bytes}
 use Rattle.lis_content.specs.Content.{given}
-use Rattle.lis_model.specs.Image.{bitmap_blocks}
+use Rattle.lis_content.specs.Placing.{homes_of}
+use Rattle.lis_graph.proofs.Members.{among_at}
+use Rattle.lis_model.specs.Image.{bitmap_blocks, image_blocks}
 use Rattle.lis_kept.specs.Metadata.{Metadata}
 use Rattle.lis_kept.specs.Areas.{Area, slots_of, block_of, spelled, bitmap_home, is_marked}
 use Rattle.lis_kept.specs.Areas.Area.{Properties, Axioms, Files, Rows, Bitmap}
@@ -59,8 +62,9 @@ true_of : (b : Bool) (bits : List Bool) → true_in (b ∷ bits) ≡ cond b 1 0 
 true_of b bits = sum_by-cons (λ (b : Bool). cond b 1 0) b bits
 
 no_more : (was now : Bool) → (now ≡ true → was ≡ true) → cond now 1 0 ≤ cond was 1 0
-no_more was true still = omega (arith, ap (λ b. cond b 1 0) (still refl))
-no_more was false still = omega arith
+no_more true now still = one_at_most now
+no_more false true still = absurd (let e : false ≡ true = still refl in cc)
+no_more false false still = omega arith
 
 -- what was true, unless it is in the range
 unless : (first m n : ℕ) (was now : Bool) → (Within first m n → ⊥) → (now ≡ true → (was ≡ true) ⊎ Within first m n) → now ≡ true → was ≡ true
@@ -113,6 +117,7 @@ marked_still bits (h ∷ homes) n is = marked_still (set bits h true) homes n (b
 
 -- each of them is marked
 marked_among : (bits : List Bool) (homes : List ℕ) (n : ℕ) → n < length bits → Among homes n → is_taken (marked bits homes) n ≡ true
+marked_among bits [] n lt none = absurd none
 marked_among bits (h ∷ homes) n lt (inl here) = subst (λ m. is_taken (marked (set bits h true) homes) m ≡ true) here (marked_still (set bits h true) homes h (get_or-set_same bits h true false (omega (arith, here, lt))))
 marked_among bits (h ∷ homes) n lt (inr more) = marked_among (set bits h true) homes n (omega (arith, lt, length-set bits h true)) more
 
@@ -134,3 +139,48 @@ marks_none limits bits blocks i at le =
     let rest = filter (λ b. nat_lt b limits.blocks) (drop (i + 1) blocks) in
     sym (ap (λ ns. marked bits (bitmap_homes limits ns)) (next_at blocks i at)
     ∙ ap (λ b. marked bits (map (bitmap_home limits) (cond b (n ∷ rest) rest))) (le-ltb n limits.blocks le))
+
+-- marks that are still to be made do not change how many flags there are
+pub as_many : (one two : List Bool) (some all : List ℕ) → marked one some ≡ marked two all → length one ≡ length two
+as_many one two some all same = sym (length-marked one some) ∙ (ap length same ∙ length-marked two all)
+
+-- ---- homes of data blocks
+abbrev pub is_home : Limits → ℕ → Bool
+is_home limits h = nat_le (data_start limits) h && nat_lt h (image_blocks limits)
+
+-- the block of the bitmap, by the home
+abbrev pub bitmap_home_of : Limits → ℕ → ℕ
+bitmap_home_of limits h = bitmap_home limits (h - data_start limits)
+
+pub home_at : (limits : Limits) (homes : List ℕ) (i : ℕ) → i < length homes → list_all (is_home limits) homes ≡ true
+    → (data_start limits ≤ get_or homes i 0) × (get_or homes i 0 < image_blocks limits)
+home_at limits homes i lt all =
+    let h = get_or homes i 0 in
+    let both = and_parts (nat_le (data_start limits) h) (nat_lt h (image_blocks limits)) (all_among (is_home limits) homes h all (among_at homes i 0 lt)) in
+    (leb-true (data_start limits) h both.0, ltb-true h (image_blocks limits) both.1)
+
+-- one home more
+pub marks_home : (f : ℕ → ℕ) (bits : List Bool) (homes : List ℕ) (i : ℕ) → i < length homes
+    → marked (set bits (f (get_or homes i 0)) true) (map f (drop (i + 1) homes)) ≡ marked bits (map f (drop i homes))
+marks_home f bits homes i at = sym (ap (λ hs. marked bits (map f hs)) (next_at homes i at))
+
+-- the homes of data blocks are homes of the image
+pub homes_are : (limits : Limits) (blocks : List ℕ) → list_all (λ n. nat_lt n limits.blocks) blocks ≡ true → list_all (is_home limits) (homes_of (data_start limits) blocks) ≡ true
+homes_are limits [] below = refl
+homes_are limits (b ∷ blocks) below =
+    let parts = and_parts (nat_lt b limits.blocks) (list_all (λ n. nat_lt n limits.blocks) blocks) below in
+    let lt = ltb-true b limits.blocks parts.0 in
+    let h = data_start limits + b in
+    and_from (is_home limits h) (list_all (is_home limits) (homes_of (data_start limits) blocks))
+    (and_from (nat_le (data_start limits) h) (nat_lt h (image_blocks limits)) (le-leb (data_start limits) h (omega arith)) (lt-ltb h (image_blocks limits) (omega (arith, lt))))
+    (homes_are limits blocks parts.1)
+
+-- by them the same blocks of the bitmap are found
+pub homes_by : (limits : Limits) (blocks : List ℕ) → list_all (λ n. nat_lt n limits.blocks) blocks ≡ true
+    → map (bitmap_home_of limits) (homes_of (data_start limits) blocks) ≡ bitmap_homes limits blocks
+homes_by limits [] below = refl
+homes_by limits (b ∷ blocks) below =
+    let parts = and_parts (nat_lt b limits.blocks) (list_all (λ n. nat_lt n limits.blocks) blocks) below in
+    let rest = filter (λ n. nat_lt n limits.blocks) blocks in
+    ap₂ (λ k ns. bitmap_home limits k ∷ ns) (omega arith) (homes_by limits blocks parts.1)
+    ∙ sym (ap (λ t. map (bitmap_home limits) (cond t (b ∷ rest) rest)) parts.0)

@@ -80,7 +80,7 @@ marked_only [] bits n is = inl is
 marked_only (h ∷ homes) bits n is = grind (arith, common_steps, get_or-set_other, marked_only homes (set bits h true) n is)
 
 pub one_at_most : (b : Bool) → cond b 1 0 ≤ 1
-pub one_at_most b = search (rules)
+one_at_most b = search (rules)
 
 unset : (bits : List Bool) (m : ℕ) → is_taken (set bits m false) m ≡ false
 unset [] m = refl
