@@ -12,7 +12,7 @@ use Rattle.lis_kept.proofs.InArea.{few_files, few_blocks as few_data}
 use Rattle.lis_open.specs.Checks.{IsProperty, IsFile}
 use Rattle.lis_content.specs.Large.{slot_count, file_blocks, IsIndexed}
 use Rattle.lis_content.proofs.Indexes.{large_blocks, small_blocks}
-use Rattle.lis_fields.proofs.Parts.{record_tests, few_blocks as few_in_form, size_fits}
+use Rattle.lis_fields.proofs.Parts.{record_tests, few_blocks as few_in_form}
 use Rattle.lis_kept.proofs.Contents.{slot_blocks_counted}
 use Rattle.lis_open.specs.ReadFiles.{HasBlocks, AreItsBlocks}
 use Rattle.lis_model.proofs.Stored.{stored_limit_le, stored_records, stored_bitmap, fewer_descriptions}

@@ -1,7 +1,7 @@
 -- What is read of a file's content.
 use Rattle.std.proofs.Common.{◌-◌, take-append-drop, length-take-le}
 use Rattle.std.specs.List.{flat_map, list_all}
-use Rattle.lis_open.proofs.Common.{◌≡◌, ◌∙◌, inr, refl, sym, ap, ap₂, subst, ℕ, zero, suc, ◌+◌, ◌*◌, ◌<◌, ◌≤◌, nat_lt, Bool, true, List, [], ◌∷◌, ◌++◌, length, take, drop, get_or, IsTrue, arith, and_parts, ltb-true, length-drop, Meaning, DiskFaultEnds, Held, Fits, FileRecord, is_record, Limits, data_start, list_all-append, blocks_needed, blocks_told, bytes_told, met_tests, all_among, are_stored}
+use Rattle.lis_open.proofs.Common.{◌≡◌, ◌∙◌, inr, sym, ap, ap₂, subst, ℕ, zero, suc, ◌+◌, ◌*◌, ◌<◌, ◌≤◌, nat_lt, Bool, true, List, [], ◌∷◌, ◌++◌, length, take, drop, get_or, IsTrue, arith, and_parts, ltb-true, length-drop, Meaning, DiskFaultEnds, Held, Fits, FileRecord, is_record, Limits, data_start, list_all-append, blocks_needed, blocks_told, bytes_told, met_tests, all_among, are_stored}
 use Rattle.lis_ports.specs.Calls.{OnlyReads}
 use Rattle.lis_ports.specs.Bytes.{part}
 use Rattle.lis_journal.specs.Images.{look}

@@ -1,4 +1,4 @@
-use Rattle.lis_open.proofs.Common.{◌≡◌, ◌∙◌, refl, sym, ap, subst, Bool, ◌&&◌, List, ℕ, length, arith, are_free, are_distinct, FileRecord}
+use Rattle.lis_open.proofs.Common.{◌≡◌, ◌∙◌, refl, sym, ap, subst, ◌&&◌, length, arith, are_free, are_distinct, FileRecord}
 use Rattle.lis_content.proofs.Numbers.{below_from_free, within_if_below}
 use Rattle.lis_content.specs.Large.{slot_count}
 use Rattle.lis_kept.proofs.Image.{same_blocks}

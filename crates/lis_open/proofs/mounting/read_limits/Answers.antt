@@ -19,7 +19,7 @@ returns-then-len-need-clause-ended g c = λ honest.
     let old = g.D.Disk.meaning c.args.disk.now in
     let need = c.from.result * 4096 in
     let super = super_read old.bytes c.read_at.new.buf c.in-Some.limits (c.in_ok-read_at.ensures.read honest) c.in-Some.ensures.spelled (omega (arith, c.if-limits-gt2.false)) in
-    short_opened old (g.D.Disk.meaning c.read_at.new.self) c.len-len.result need c.len-len.ensures (omega (arith, c.if-len-need.true)) (inr (c.in-Some.limits, super, omega (arith, c.from.ensures, c.image_blocks.ensures.blocks))) (c.read_at.ensures.same honest)
+    short_opened old (g.D.Disk.meaning c.read_at.new.self) c.len-len.result need c.len-len.ensures (omega (arith, c.if-len-need.true)) (inr (c.in-Some.limits, super, omega (arith, c.from.ensures, c.image_blocks.ensures))) (c.read_at.ensures.same honest)
 
 pub returns-clause-ended : goal.returns-clause-ended
 returns-clause-ended g c = λ honest.
