@@ -12,7 +12,7 @@ MAX_FILE = 65_536
 MAX_LARGE_FILE = 1_048_576
 # Bytes of a block.
 BLOCK_LEN = 4_096
-# The most blocks of a content whose numbers are in the slot of its file. A larger one has an index block.
+# The most blocks of a content whose numbers are in the slot of its file. A larger one has index blocks.
 SLOT_BLOCKS = 16
 # A file that has bytes, and fewer than this, is small.
 SMALL_FILE = 1_024
