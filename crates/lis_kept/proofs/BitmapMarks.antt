@@ -121,6 +121,76 @@ marked_among bits [] n lt none = absurd none
 marked_among bits (h ∷ homes) n lt (inl here) = subst (λ m. is_taken (marked (set bits h true) homes) m ≡ true) here (marked_still (set bits h true) homes h (get_or-set_same bits h true false (omega (arith, here, lt))))
 marked_among bits (h ∷ homes) n lt (inr more) = marked_among (set bits h true) homes n (omega (arith, lt, length-set bits h true)) more
 
+-- ---- what is spelled there
+-- a block of the bitmap without the bits of these data blocks is as before, if all others are taken or free as before
+bytes_unless : (limits : Limits) (before after : List Bool) (blocks : List ℕ) (n : ℕ) → length before ≡ limits.blocks → length after ≡ length before
+    → ((k : ℕ) → (Among blocks k → ⊥) → is_taken after k ≡ is_taken before k) → (Among (bitmap_homes limits blocks) (bitmap_start limits + n) → ⊥)
+    → bitmap_bytes n after ≡ bitmap_bytes n before
+unfolding bitmap_bytes
+bytes_unless limits before after blocks n len as_long others apart =
+    bytes_same 4096 (λ j. is_taken after (32768 * n + j)) (λ j. is_taken before (32768 * n + j)) (λ j lt. by j lt (cases_lt (32768 * n + j) limits.blocks))
+  where
+    none : (j : ℕ) → j < 8 * 4096 → 32768 * n + j < limits.blocks → Among blocks (32768 * n + j) → ⊥
+    none j lt there among =
+        let home : bitmap_home limits (32768 * n + j) ≡ bitmap_start limits + n = omega (arith, lt) in
+        apart (subst (Among (bitmap_homes limits blocks)) home (home_among limits blocks (32768 * n + j) among there))
+
+    by : (j : ℕ) → j < 8 * 4096 → (32768 * n + j < limits.blocks) ⊎ (limits.blocks ≤ 32768 * n + j) → is_taken after (32768 * n + j) ≡ is_taken before (32768 * n + j)
+    by j lt (inl there) = others (32768 * n + j) (none j lt there)
+    by j lt (inr past) = get_or_past after (32768 * n + j) false (omega (arith, past, len, as_long)) ∙ sym (get_or_past before (32768 * n + j) false (omega (arith, past, len)))
+
+-- ---- blocks that are freed or taken
+pub given_others : (taken : List Bool) (ns : List ℕ) (n : ℕ) → (Among ns n → ⊥) → is_taken (given taken ns) n ≡ is_taken taken n
+given_others taken [] n apart = refl
+given_others taken (b ∷ ns) n apart = given_others (set taken b false) ns n (λ m. apart (inr m)) ∙ get_or-set_other taken b n false false (λ e. apart (inl (sym e)))
+
+pub marked_others : (taken : List Bool) (ns : List ℕ) (n : ℕ) → (Among ns n → ⊥) → is_taken (marked taken ns) n ≡ is_taken taken n
+marked_others taken [] n apart = refl
+marked_others taken (b ∷ ns) n apart = marked_others (set taken b true) ns n (λ m. apart (inr m)) ∙ get_or-set_other taken b n true false (λ e. apart (inl (sym e)))
+
+-- other blocks are taken than before, and the blocks of the bitmap with their bits are marked
+module _ (p : Metadata) (sound : AreSound p) (blocks : List ℕ) (taken marks : List Bool) (len : length taken ≡ length p.taken)
+    (others : (n : ℕ) → (Among blocks n → ⊥) → is_taken taken n ≡ is_taken p.taken n) (are_marks : marks ≡ marked p.marks (bitmap_homes p.limits blocks)) where
+  abbrev retaken : Metadata
+  retaken = record p { taken = taken; marks = marks }
+
+  homes_below : (n : ℕ) → Among (bitmap_homes p.limits blocks) n → n < length p.marks
+  homes_below n among = omega (arith, (homes_within p.limits blocks n among).1, sound.marks)
+
+  spelled_before : (area : Area) (n : ℕ) → n < (slots_of p.limits area).count → (Among (bitmap_homes p.limits blocks) (block_of p.limits area n) → ⊥) → spelled retaken area n ≡ spelled p area n
+  spelled_before Properties n lt apart = refl
+  spelled_before Axioms n lt apart = refl
+  spelled_before Files n lt apart = refl
+  spelled_before Rows n lt apart = refl
+  spelled_before Bitmap n lt apart =
+      bytes_unless p.limits p.taken taken blocks n sound.blocks len others
+      (λ among. apart (subst (Among (bitmap_homes p.limits blocks)) (omega arith) among))
+
+  pub bitmap_marked : Marks (bitmap_blocks p.limits) p retaken
+  bitmap_marked = record {
+    saved = (blocks_marked p retaken (bitmap_homes p.limits blocks) refl are_marks homes_below spelled_before).saved;
+    few = omega (arith, few_in_bitmap p.limits p.marks blocks, ap true_in are_marks);
+  }
+
+-- some blocks after others: no more is marked than one bitmap
+pub takes_both : (p mid q : Metadata) (one two : List ℕ) (ts us : List Bool) → Takes one ts p mid → Takes two us mid q → Marks (bitmap_blocks p.limits) p q
+takes_both p mid q one two ts us first second = record {
+  saved = λ at saved. second.marks.saved at (first.marks.saved at saved);
+  few = omega (arith, few_in_bitmap p.limits p.marks (one ++ two), ap true_in are_marks);
+}
+  where
+    are_marks : q.marks ≡ marked p.marks (bitmap_homes p.limits (one ++ two))
+    are_marks =
+        ap (λ (k : Metadata). k.marks) second.metadata
+        ∙ (ap (λ (k : Metadata). marked k.marks (bitmap_homes k.limits two)) first.metadata ∙ marked_both p.limits p.marks one two)
+
+-- the block of the bitmap with the bit of each of them is marked
+pub takes_marked : (p q : Metadata) (blocks : List ℕ) (taken : List Bool) → AreSound p → Takes blocks taken p q → (n : ℕ) → Among blocks n → n < p.limits.blocks
+    → is_marked q (bitmap_home p.limits n) ≡ true
+takes_marked p q blocks taken sound takes n among lt =
+    ap (λ (k : Metadata). is_marked k (bitmap_home p.limits n)) takes.metadata
+    ∙ marked_among p.marks (bitmap_homes p.limits blocks) (bitmap_home p.limits n) (omega (arith, lt, sound.marks)) (home_among p.limits blocks n among lt)
+
 -- ---- a loop over data blocks
 -- one data block more
 pub marks_one : (limits : Limits) (bits : List Bool) (blocks : List ℕ) (i : ℕ) → i < length blocks → get_or blocks i 0 < limits.blocks
