@@ -59,7 +59,7 @@ module _ (k : Stored) (s : State) (sound : IsSound k) (fits : ToldBy k s) (name 
           let small = small_size rec.size (omega (arith, short, first_limit p.limits (eqb-true p.limits.version 1 one))) in
           ap length (all_pass_filter (is_taken p.taken) rec.blocks (λ b of.
           (fits.tells.given f (contains_from_among p.catalog.entries f there) b (number_from_among (blocks_told p.limits fits.kept rec) b (slot_blocks_told p.limits fits.kept rec b of))).1))
-          ∙ (ap length (sym (small_blocks (data_start p.limits) rec.blocks rec.size fits.kept small))
+          ∙ (ap length (sym (small_blocks p.limits.version (data_start p.limits) rec.blocks rec.size fits.kept small))
           ∙ (told_counted p sound.metadata f there fits.kept ∙ ap (blocks_taken p.limits.version) (sym size)))
 
       by : (one : Bool) → (p.limits.version == 1) ≡ one
