@@ -44,7 +44,7 @@ use Rattle.lis_ports.proofs.OnlyReading.{reads_then}
 use Rattle.lis_open.specs.Reading.{IsFirst, IsFirstOfAll, Passes, HasPartCause, ReadsPart, Recalls, KindFails, PartsFail}
 use Rattle.lis_open.proofs.Damage.{one_contents}
 use Rattle.lis_open.proofs.SpotKinds.{none_before, none_fails}
-use Rattle.lis_open.proofs.Lefts.{no_file_has, row_place_is}
+use Rattle.lis_open.proofs.Lefts.{no_file_has, row_place_is, has_rows}
 use Rattle.lis_open.proofs.BitmapRead.{bit_spelled}
 use Rattle.lis_open.specs.declared.mounting.OpenFault.{OpenFault}
 use Rattle.lis_open.specs.declared.mounting.OpenFault.TheVariants.{TooShort, Damaged, DiskFault, NoMemory}
@@ -346,6 +346,7 @@ module _ (limits : Limits) (at : ℕ → List ℕ) (words : Words) (axioms : Axi
 
     row_fails : (p : ℕ) → p < (row_slots limits).count → (IsRowSpelled limits at files.ext p → ⊥) → RowFails limits at (row_place limits p)
     row_fails p below differs = record {
+      before_third = has_rows limits range;
       contents = held_contents;
       are = contents_are limits at words axioms files (no_marks limits) read;
       fault = elim (cases_lt p limits.props) [

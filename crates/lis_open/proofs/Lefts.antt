@@ -1,7 +1,7 @@
 -- Rows of the left sides of axioms and of their heads, and the words that are not in use.
 use Rattle.std.proofs.Common.{rules}
-use Rattle.std.proofs.Common.{min, ◌↔◌}
-use Rattle.lis_open.proofs.Common.{◌≡◌, ◌∙◌, sym, ap, ap₂, ℕ, ◌+◌, ◌*◌, ◌/◌, ◌<◌, ◌≤◌, ◌==◌, Bool, are_stored, image_blocks, few_properties, false, List, length, IsTrue, arith, subst, refl, if◌then◌else◌, ◌&&◌, ◌||◌, not, true, cond, Some, None, is_some, list_all, bits_bytes, has, Limits, slot, Row, row_slots, both_ways, list_any, or-false, HasShape, get, with_row, is_taken, Dict, IsDict, word_of, AxiomSlot, Metadata, is_head_by, is_had, is_left_of, is_left_head_of, is_used, Rows}
+use Rattle.std.proofs.Common.{min, ◌↔◌, ◌≢◌}
+use Rattle.lis_open.proofs.Common.{◌≡◌, ◌∙◌, inl, inr, sym, ap, ap₂, ℕ, ◌+◌, ◌*◌, ◌/◌, ◌<◌, ◌≤◌, ◌==◌, Bool, are_stored, image_blocks, few_properties, false, List, length, IsTrue, arith, subst, refl, if◌then◌else◌, ◌&&◌, ◌||◌, not, true, cond, Some, None, is_some, list_all, bits_bytes, has, Limits, slot, Row, row_slots, both_ways, list_any, or-false, HasShape, get, with_row, is_taken, Dict, IsDict, word_of, AxiomSlot, Metadata, is_head_by, is_had, is_left_of, is_left_head_of, is_used, Rows}
 use Rattle.lis_fields.specs.Layouts.{zeros}
 use Rattle.std.proofs.lemmas.Bool.Decides.{nat_tests}
 use Rattle.lis_bits.proofs.Numbers.{bytes_none}
@@ -10,7 +10,7 @@ use Rattle.lis_fields.proofs.Widths.{zeros_pass, zeros_of}
 use Rattle.std.proofs.Math.Nat.{div-lt_iff_lt-mul}
 use Rattle.lis_kept.proofs.InArea.{files_range, some_rows}
 use Rattle.lis_model.specs.Image.{descriptions_start}
-use Rattle.lis_model.proofs.Stored.{each_files_limit, stored_descriptions}
+use Rattle.lis_model.proofs.Stored.{each_files_limit, stored_parts, stored_descriptions}
 use Rattle.lis_open.specs.ReadAll.{IsRowSpelled, IsFirstRow, row_place, is_stray}
 use Rattle.lis_kept.specs.Rows.{row_bytes}
 use Rattle.std.proofs.Math.Bool.{or-true, or_assoc}
@@ -35,6 +35,10 @@ pub zeros_decide : (e : Ext) (files number : ℕ) (bytes : List ℕ) (all : Bool
 zeros_decide e files number bytes all count width none is = search (rules, zeros_of, no_file_has, zeros_pass)
 
 -- ---- rows as they are read
+-- there are rows in versions 1 and 2
+pub has_rows : (limits : Limits) → IsTrue (are_stored limits) → limits.version ≢ 3
+has_rows limits range third = elim ((stored_parts limits range).version) [ inl one ↦ omega (arith, one, third) | inr two ↦ omega (arith, two, third) ]
+
 -- there are few of them
 pub few_rows : (limits : Limits) → IsTrue (are_stored limits) → 4096 / (limits.files / 8) * ((limits.props * limits.files + 32767) / 32768) ≤ 2000000
 few_rows limits range =

@@ -1,5 +1,8 @@
 -- How opening an image ends: the super block, the journal, and the parts after it.
-use Rattle.std.proofs.Common.{slice_index_or}
+use Rattle.std.proofs.Common.{◌≢◌, filter, slice_index_or}
+use Rattle.std.specs.List.{range_with_len}
+use Rattle.lis_fields.specs.Layouts.{set_bytes}
+use Rattle.lis_kept.specs.Areas.{set_slots}
 use Rattle.lis_open.proofs.Common.{rules, ◌≡◌, refl, sym, ap, ap₂, ◌∙◌, subst, inl, inr, ℕ, ◌+◌, ◌/◌, ◌≤◌, ◌<◌, nat_lt, Bool, true, false, cond, List, [], ◌++◌, map, take, replicate, Option, Some, None, IsTrue, IsSomeAnd, arith, fold, flat_map, Contains, ◌⊎◌, ◌*◌, length, Result, Ok, Err, insert_key, list_all, part, bits_bytes, block, Keeps, Slots, slot, marked, are_distinct, is_large, index_bytes, numbers_in, index_home, FileRecord, SpellsSuper, prop_bytes, is_prop, axiom_bytes, is_axiom, file_bytes, is_file, FreeFile, PropSlot, Limits, bitmap_start, data_start, image_blocks, are_stored, State, file_cmp, blocks_needed, property_slots, axiom_slots, file_slots, row_slots, bytes_told, blocks_told, HasIndex, Contents, AreSlots, all_records, spelled_state, is_had_by, word_at, row_bit, replayed, File, file_of_record, same_Some, Meaning, IsSettled, Leaves, Held, Fits, Spot, Super, BadRecord, Tells, Stored, IsSound, contents_of, leaves_weaken, leaves_then, IsWritten, ⊎_map, leb-true, le-leb, and_parts, and_from, nat_le}
 use Rattle.std.proofs.Math.Path.{fun_ext}
 use Rattle.lis_journal.specs.Images.{StandsFor as KeptBy, KeepsPast}
@@ -8,7 +11,7 @@ use Rattle.lis_slots.specs.Slots.{home, place}
 use Rattle.lis_blockmap.specs.Bitmap.{bitmap_bytes}
 use Rattle.lis_content.specs.Large.{content_blocks, index_count}
 use Rattle.lis_content.proofs.Indexes.{numbers_of_same}
-use Rattle.lis_store.specs.Stands.{all_blocks, Spells, Stands}
+use Rattle.lis_store.specs.Stands.{set_by, all_blocks, Spells, Stands}
 use Rattle.lis_ports.specs.Calls.{IsUnchanged, OnlyReads}
 use Rattle.lis_ports.specs.Runs.{IsDiskRun}
 use Rattle.lis_journal.specs.Record.{has_open, bad_record, recovered_as, recovered}
@@ -86,6 +89,7 @@ module _ (limits : Limits) (at there : ℕ → List ℕ) (same : (n : ℕ) → p
         subst (λ ns. are_distinct ns ≡ true) all spells.each_block_once,
         bitmap,
         rows,
+        sets,
       )
     where
       recs : List FileRecord
@@ -100,11 +104,17 @@ module _ (limits : Limits) (at there : ℕ → List ℕ) (same : (n : ℕ) → p
       bitmap : (n : ℕ) → n < bitmap_blocks limits → there (bitmap_start limits + n) ≡ bitmap_bytes n (marked (replicate limits.blocks false) (all_blocks limits there (all_records contents.files)))
       bitmap n lt = sym (same (bitmap_start limits + n) (omega arith)) ∙ (spells.bitmap n lt ∙ ap (λ ns. bitmap_bytes n (marked (replicate limits.blocks false) ns)) all)
 
-      rows : (p : ℕ) → p < (row_slots limits).count → slot (row_slots limits) there p ≡ bits_bytes (limits.files / 8) (row_bit s limits contents there p)
-      rows p lt =
+      rows : limits.version ≢ 3 → (p : ℕ) → p < (row_slots limits).count → slot (row_slots limits) there p ≡ bits_bytes (limits.files / 8) (row_bit s limits contents there p)
+      rows before p lt =
           sym (ap (part (place (row_slots limits) p) (row_slots limits).width) (same (home (row_slots limits) p) (le_more (properties_start limits) (row_slots limits).first _ (omega arith))))
-          ∙ (spells.rows p lt
+          ∙ (spells.rows before p lt
           ∙ ap (λ f. bits_bytes (limits.files / 8) (λ i. is_had_by s f (word_at contents.properties p) (slice_index_or contents.files i FreeFile))) (same_files contents.properties))
+
+      sets : limits.version ≡ 3 → (i : ℕ) → i < (set_slots limits).count → slot (set_slots limits) there i ≡ set_bytes (set_by s limits contents there i)
+      sets third i lt =
+          sym (ap (part (place (set_slots limits) i) (set_slots limits).width) (same (home (set_slots limits) i) (le_more (properties_start limits) (set_slots limits).first _ (omega arith))))
+          ∙ (spells.sets third i lt
+          ∙ ap (λ f. set_bytes (filter (λ p. is_had_by s f (word_at contents.properties p) (slice_index_or contents.files i FreeFile)) (range_with_len 0 limits.props))) (same_files contents.properties))
 
 -- ---- images represent a state
 pub kept_stands : (s : State) (contents : Contents) (at : ℕ → List ℕ) (image : List ℕ) → IsTrue (are_stored s.limits) → SpellsSuper s.limits (at 0) → Spells s.limits contents at s
