@@ -30,6 +30,7 @@ use Rattle.lis_kept.proofs.Formed.{axioms_formed, records_formed}
 use Rattle.lis_kept.proofs.Filing.{number_from_among as has_from_among}
 use Rattle.lis_kept.proofs.Known.{placed_at, only_pair, declared_set}
 use Rattle.lis_store.specs.Stands.{Contents, AreSlots, word_in, declared_in, words_in, all_declared, word_at, pair_in, pairs_in, is_named_axiom, is_free_axiom, records_in, all_records, all_blocks, file_by as file_of_record, spelled_state, is_had_by, row_bit, Spells}
+use Rattle.lis_model.proofs.Stored.{stored_parts}
 use Rattle.lis_store.specs.Stored.{PairsAreApart}
 use Rattle.lis_store.proofs.SlotOrder.{given_at, flat_map-flat_map, permuted_among, distinct_permuted, held, held_at, slot_order}
 use Rattle.lis_store.proofs.Points.{set_of_points, AllApart, length-with_more}
@@ -389,6 +390,13 @@ module _ (k : Metadata) (at : ℕ → List ℕ) (sound : AreSound k) (free : Fre
       ∙ (ap (λ n. bits_bytes (n / 8) (has k.ext p)) sound.files
       ∙ bytes_same (k.limits.files / 8) (has k.ext p) (row_bit s k.limits (contents_of k) at p) (λ i small. bit_is p i (omega (arith, small))))
 
+  -- no image of version 3 is stored
+  not_third : k.limits.version ≡ 3 → ⊥
+  not_third third = elim (stored_parts k.limits sound.range).version [
+    | inl one ↦ absurd (omega (arith, one, third))
+    | inr two ↦ absurd (omega (arith, two, third))
+  ]
+
   pub spells_told : Spells k.limits (contents_of k) at s
   spells_told = record {
     properties = property_slots_are;
@@ -409,7 +417,8 @@ module _ (k : Metadata) (at : ℕ → List ℕ) (sound : AreSound k) (free : Fre
     blocks = all_in_image;
     each_block_once = distinct_permuted (used k sound at) (all_blocks k.limits at (all_records (files_told k))) (blocks_permuted k sound at) used_once;
     bitmap = λ n lt. written Bitmap n lt ∙ ap (bitmap_bytes n) taken_told;
-    rows = rows_are;
+    rows = λ old. rows_are;
+    sets = λ third. absurd (not_third third);
   }
 
 -- the same, for the state that memory represents
