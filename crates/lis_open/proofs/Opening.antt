@@ -365,7 +365,11 @@ module _ (old : Meaning) (limits : Limits) (super : HasSuper limits old.bytes) (
         cc
 
     parts_first : (spot : Spot) → IsFirstOfAll limits kept spot → FailsFirst old.bytes spot
-    parts_first spot first = search (rules, fails_in, behind, no_bad_record, replayed_fails)
+    parts_first spot first = record {
+      fails = fails_in spot first.fails;
+      none_before = behind old.bytes (λ earlier. IsBefore earlier spot → FailsIn old.bytes earlier → ⊥) (λ before fails. fails limits super) (λ b before fails. no_bad_record b fails)
+          (λ earlier low to from before fails. first.none_before earlier before (replayed_fails earlier (from fails)));
+    }
 
     module _ (journal : Held) (new : Meaning) (fits : Fits journal new kept) (left : Recovers old new) where
       -- the state that a store represents

@@ -3,7 +3,6 @@ use Rattle.std.proofs.Common.{rules}
 use Rattle.std.proofs.Common.{take-append-drop}
 use Rattle.lis_open.proofs.Common.{◌≡◌, sym, ap, ◌∙◌, subst, ℕ, ◌+◌, ◌≤◌, nat_le, true, Some, List, length, map, slice_get, sum, IsTrue, arith, ◌⊎◌, refl, ap₂, inl, inr, ◌*◌, ◌==◌, Bool, false, [], ◌∷◌, ◌++◌, take, drop, Result, Ok, Err, if◌then◌else◌, eq-eqb, le-leb, drop-drop, Contains, leb-true, list_all, among_from_contains, contains_from_among, filed_rec, flat_map, slot, property_slots, axiom_slots, file_slots, row_slots, bitmap_start, bytes_told, file_told, state_of, is_large, both_ways, Filed, rec_at, are_distinct, Dict, FileRecord, SpellsSuper, Pair, data_start, State, description, WellFormed, Metadata, AreSound, blocks_told, Tells, Meaning, part, Torn, Always, IsSettled, Leaves, part-torn, part-put, block, Keeps, Spreads, Limits, image_blocks, Stored, IsSound, and_from, has_number, all_among, File, IsWritten, put, always_settled, leaves_then, leaves_weaken, replayed, recovered, ⊎_map, word_of, is_some, nat_lt, cond, ◌/◌, ◌&&◌}
 use Rattle.lis_store.specs.Stands.{Stands}
-use Rattle.std.proofs.lemmas.Bool.{cond-false}
 use Rattle.std.proofs.Math.Path.{fun_ext}
 use Rattle.lis_content.proofs.Indexes.{small_size, small_blocks, small_content}
 use Rattle.lis_fields.proofs.Parts.{file_upgraded, file_respelled, record_tests}
