@@ -1,7 +1,7 @@
 -- The contents of the slots that were read, and the state that they spell.
 pub use Rattle.lis_open.specs.ReadAll.{HasRead}
 use Rattle.std.proofs.Common.{◌≢◌, IfOk}
-use Rattle.lis_open.proofs.Common.{rules, ◌≡◌, ◌∙◌, refl, sym, ap, ap₂, subst, inl, inr, ℕ, Bool, true, List, [], map, Option, Some, None, slice_get, IsTrue, arith, ◌+◌, ◌/◌, ◌<◌, ◌≤◌, not, false, is_some, replicate, Result, Ok, Err, IfSome, OnOk, ⊎_elim, fold, eq-eqb, insert_key, Among, contains_from_among, among_map, map_among, among_flat_map, IsDict, word_of, number_from_word, Filed, rec_at, has, numbers_at, FileRecord, file_bytes, is_file, Pair, FileSlot, word_cmp, is_valued, same_word, head_bytes, same_word_decides, Limits, State, file_cmp, description, known, Metadata, record_at, axiom_slots, file_slots, bit_of, words_told, file_told, state_of, is_head_by, is_used, among_from_number, filed_rec, filed_at_slot, declared_there, there_declared, Contents, AreSlots, all_records, spelled_state, contents_of, cases_eq, cases_lt, length-replicate, bits_bytes, is_taken, has_bit, FreeFile, among_from_has_word, Spot, Word, Row, are_stored, bitmap_start, data_start, row_slots, AreSound, word_at, is_had_by, row_bit, and_parts, and_from, both_ways, false_from_ne_true, flat_map_among, File, has_from_among, file_of_record, not_true, zeros, has_word, has_word_from_among, Bitmap, or_left, list_any, is_left_of, is_left_head_of, any_from_among, among_place, cases_Bool}
+use Rattle.lis_open.proofs.Common.{rules, ◌≡◌, ◌∙◌, refl, sym, ap, ap₂, subst, inl, inr, ℕ, ◌*◌, Bool, true, List, [], map, Option, Some, None, slice_get, IsTrue, arith, ◌+◌, ◌/◌, ◌<◌, ◌≤◌, not, false, is_some, replicate, Result, Ok, Err, IfSome, OnOk, ⊎_elim, fold, eq-eqb, insert_key, Among, contains_from_among, among_map, map_among, among_flat_map, IsDict, word_of, number_from_word, Filed, rec_at, has, numbers_at, FileRecord, file_bytes, is_file, Pair, FileSlot, word_cmp, is_valued, same_word, head_bytes, same_word_decides, Limits, State, file_cmp, description, known, Metadata, record_at, axiom_slots, file_slots, bit_of, words_told, file_told, state_of, is_head_by, is_used, among_from_number, filed_rec, filed_at_slot, declared_there, there_declared, Contents, AreSlots, all_records, spelled_state, contents_of, cases_eq, cases_lt, length-replicate, bits_bytes, is_taken, FreeFile, among_from_has_word, Spot, Word, Row, are_stored, data_start, row_slots, AreSound, word_at, is_had_by, row_bit, and_parts, and_from, both_ways, false_from_ne_true, flat_map_among, File, has_from_among, file_of_record, not_true, zeros, has_word, has_word_from_among, Bitmap, or_left, list_any, is_left_of, is_left_head_of, any_from_among, among_place, cases_Bool}
 use Rattle.std.specs.List.{range_with_len}
 use Rattle.std.proofs.lemmas.List.FromFn.{length-map-range_with_len, get_or-map-range_with_len}
 use Rattle.lis_graph.proofs.Ranges.{range_among}
@@ -10,6 +10,7 @@ use Rattle.lis_laws.proofs.Chains.{among_heads, heads_of_valued}
 use Rattle.lis_laws.proofs.Forms.{file_order}
 use Rattle.lis_laws.proofs.Sources.{Source, source_of, known_from}
 use Rattle.lis_laws.proofs.Sources.Source.{Declared, Left, LeftHead, Described}
+use Rattle.lis_model.specs.Image.{bitmap_blocks}
 use Rattle.lis_model.specs.State.{heads}
 use Rattle.lis_kept.specs.Metadata.{file_by}
 use Rattle.lis_store.specs.Stands.{records_in}
@@ -18,10 +19,10 @@ use Rattle.lis_store.proofs.SlotOrder.{given_at}
 use Rattle.lis_open.specs.declared.words.Words.{Words}
 use Rattle.lis_open.specs.declared.axioms.Axioms.{Axioms}
 use Rattle.lis_open.specs.declared.files.Files.{Files}
-use Rattle.lis_open.specs.Checks.{AreContents, IsUsed, WordFails, BitFails, RowFault, RowFails, Fails, rank}
+use Rattle.lis_open.specs.Checks.{AreContents, IsUsed, WordFails, BitFails, RowFault, RowFails, Fails, has_bitmap_bit, rank}
 use Rattle.lis_open.specs.ReadWords.{AreFirstWords, AreFirstAxioms, WordsAreSpelled, AxiomsAreSpelled}
 use Rattle.lis_open.specs.ReadFiles.{in_catalog, AreFiles, FilesEnded}
-use Rattle.lis_open.specs.ReadAll.{metadata_in, AreNoMarks, is_stray, IsFirstStray, IsRowSpelled, IsFirstRow, row_place, AreSlotsRead, SlotsEnded, AreRead, HasStray, Differs, RowsChecked, PartsEnded}
+use Rattle.lis_open.specs.ReadAll.{metadata_in, AreNoMarks, is_stray, IsFirstStray, IsRowSpelled, IsFirstRow, row_place, AreSlotsRead, SlotsEnded, AreRead, HasStray, IsFirstBit, BitmapDiffers, AreBitmapBlocks, RowsChecked, PartsEnded}
 use Rattle.lis_open.proofs.Once.{rising_map}
 use Rattle.lis_open.proofs.Descriptions.{told_among, among_told, one_number, pair_among, among_pair, Sides, sides}
 use Rattle.lis_open.proofs.FilesRead.{file_is, slot_read, used_is, rec_is}
@@ -32,7 +33,6 @@ use Rattle.lis_kept.proofs.Used.WhyUsed.{Flagged, Had, OnLeft, HeadOfLeft}
 use Rattle.lis_open.proofs.WordsRead.{declared_told, axioms_told, file_is_told, are_told, word_at_told}
 use Rattle.lis_bits.proofs.Numbers.{bytes_same}
 use Rattle.lis_bits.proofs.Subset.{implied}
-use Rattle.lis_blockmap.specs.Bitmap.{IsFirstDifference, bitmap_bytes}
 use Rattle.lis_kept.specs.Rows.{row_bytes}
 use Rattle.lis_kept.proofs.Formed.{some_word}
 use Rattle.lis_kept.proofs.Known.{number_told}
@@ -44,8 +44,8 @@ use Rattle.lis_ports.proofs.OnlyReading.{reads_then}
 use Rattle.lis_open.specs.Reading.{IsFirst, IsFirstOfAll, Passes, HasPartCause, ReadsPart, Recalls, KindFails, PartsFail}
 use Rattle.lis_open.proofs.Damage.{one_contents}
 use Rattle.lis_open.proofs.SpotKinds.{none_before, none_fails}
-use Rattle.lis_open.proofs.Lefts.{no_file_has, row_place_is}
-use Rattle.lis_blockmap.proofs.Laws.{has_bit-bitmap_bytes}
+use Rattle.lis_open.proofs.Lefts.{no_file_has, row_place_is, has_rows}
+use Rattle.lis_open.proofs.BitmapRead.{bit_spelled}
 use Rattle.lis_open.specs.declared.mounting.OpenFault.{OpenFault}
 use Rattle.lis_open.specs.declared.mounting.OpenFault.TheVariants.{TooShort, Damaged, DiskFault, NoMemory}
 use Rattle.lis_open.specs.declared.blocks.LastBlock.{LastBlock}
@@ -281,17 +281,17 @@ module _ (limits : Limits) (at : ℕ → List ℕ) (words : Words) (axioms : Axi
         has = owner.3;
       }
 
-  bit_passes : (n : ℕ) → has_bit (at (bitmap_start limits)) n ≡ is_taken files.map n → BitFails limits at n → ⊥
+  bit_passes : (n : ℕ) → has_bitmap_bit limits at n ≡ is_taken files.map n → BitFails limits at n → ⊥
   bit_passes n same fails =
       ⊎_elim (λ more. more.1 (taken_used n (sym same ∙ more.0))) (λ less. both_ways (is_taken files.map n) (sym same ∙ less.0) (used_taken n less.1)) fails.fault
 
-  bit_fails : (n : ℕ) → n < 32768 → has_bit (at (bitmap_start limits)) n ≢ is_taken files.map n → BitFails limits at n
+  bit_fails : (n : ℕ) → n < 32768 * bitmap_blocks limits → has_bitmap_bit limits at n ≢ is_taken files.map n → BitFails limits at n
   bit_fails n below differ = search (rules, used_taken, taken_used, cases_Bool)
 
-  pub first_difference : (n : ℕ) → IsFirstDifference (at (bitmap_start limits)) files.map n → IsFirst limits at 6 (Bitmap n)
+  pub first_difference : (n : ℕ) → IsFirstBit limits at files.map n → IsFirst limits at 6 (Bitmap n)
   first_difference n first = search (rules, bit_fails, none_before, bit_passes)
 
-  pub bits_pass : ((n : ℕ) → n < 32768 → has_bit (at (bitmap_start limits)) n ≡ is_taken files.map n) → (spot : Spot) → rank spot ≡ 6 → Fails limits at spot → ⊥
+  pub bits_pass : ((n : ℕ) → n < 32768 * bitmap_blocks limits → has_bitmap_bit limits at n ≡ is_taken files.map n) → (spot : Spot) → rank spot ≡ 6 → Fails limits at spot → ⊥
   bits_pass same = none_fails limits at 6 (λ n fails. bit_passes n (same n fails.below) fails)
 
   -- ---- rows
@@ -346,6 +346,7 @@ module _ (limits : Limits) (at : ℕ → List ℕ) (words : Words) (axioms : Axi
 
     row_fails : (p : ℕ) → p < (row_slots limits).count → (IsRowSpelled limits at files.ext p → ⊥) → RowFails limits at (row_place limits p)
     row_fails p below differs = record {
+      before_third = has_rows limits range;
       contents = held_contents;
       are = contents_are limits at words axioms files (no_marks limits) read;
       fault = elim (cases_lt p limits.props) [
@@ -403,14 +404,14 @@ module _ (limits : Limits) (at : ℕ → List ℕ) (words : Words) (axioms : Axi
     words_passed : PassBelow limits at 6
     words_passed = pass_more limits at 5 below (words_pass limits at words axioms files read (used unmarked))
 
-    pub bitmap_failed : (fault : OpenFault) → Differs (at (bitmap_start limits)) files.map fault → PartsFail limits at fault
+    pub bitmap_failed : (fault : OpenFault) → BitmapDiffers limits at files.map fault → PartsFail limits at fault
     bitmap_failed fault differs = search (rules, first_of_all, words_passed, first_difference)
 
-    module _ (range : IsTrue (are_stored limits)) (bitmap : at (bitmap_start limits) ≡ bitmap_bytes files.map) where
+    module _ (range : IsTrue (are_stored limits)) (bitmap : AreBitmapBlocks limits at files.map) where
       bitmap_passed : PassBelow limits at 7
       bitmap_passed =
           pass_more limits at 6 words_passed
-          (bits_pass limits at words axioms files read (λ n lt. ap (λ bytes. has_bit bytes n) bitmap ∙ has_bit-bitmap_bytes files.map n lt))
+          (bits_pass limits at words axioms files read (λ n lt. bit_spelled limits at files.map n (bitmap (n / 32768) (omega (arith, lt)))))
 
       pub rows_ended : {T : Type 0} (result : Result T OpenFault) → RowsChecked limits at files.ext result → PartsEnded limits at words axioms files result
       rows_ended (Ok done) same = record { properties = read.properties; pairs = read.pairs; records = read.records; bitmap = bitmap; rows = same }

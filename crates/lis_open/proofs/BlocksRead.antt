@@ -1,24 +1,21 @@
--- The blocks of a file as they are read: those that its slot lists, and those that its index block lists.
+-- The blocks of a file as they are read: those that its slot lists, and those that its index blocks list.
 use Rattle.std.proofs.Common.{rules}
-use Rattle.lis_open.proofs.Common.{◌∙◌, ℕ, List, IsTrue, ◌≡◌, sym, ap, ◌^◌, ◌<◌, ◌≤◌, Bool, Option, Some, None, [], arith, IfSome, subst, true, false, ◌++◌, length, option_map, Meaning, IsSettled, Held, Fits, Slots, slot, PropSlot, FileSlot, prop_once, Limits, are_stored, image_blocks, few_properties, list_all-append, are_free, are_distinct, is_large, index_bytes, numbers_in, index_home, FileRecord, is_record, data_start, blocks_needed, and_parts, both_ways}
+use Rattle.lis_open.proofs.Common.{◌∙◌, ℕ, List, IsTrue, ◌≡◌, refl, sym, ap, ◌^◌, ◌<◌, ◌≤◌, ◌&&◌, Bool, Option, Some, [], arith, IfSome, subst, true, false, length, data_start, Meaning, IsSettled, Held, Fits, Slots, slot, PropSlot, FileSlot, prop_once, Limits, are_stored, image_blocks, few_properties, list_all-append, are_free, are_distinct, FileRecord, is_record, blocks_told, HasIndex, and_parts, both_ways}
 use Rattle.lis_journal.proofs.Fitting.{fits_unchanged}
 use Rattle.lis_open.specs.declared.blocks.LastBlock.{LastBlock}
 use Rattle.lis_ports.specs.Calls.{OnlyReads}
 use Rattle.lis_open.specs.Reading.{Recalls, IsReadAs}
-use Rattle.std.proofs.Math.Nat.{mul-le-mul_left}
 use Rattle.lis_journal.specs.Record.{HomeBlock}
 use Rattle.lis_journal.specs.Phases.{looked}
 use Rattle.lis_fields.proofs.OneSpelling.{file_once}
 use Rattle.lis_kept.proofs.InArea.{few_files, few_blocks as few_data}
 use Rattle.lis_open.specs.Checks.{IsProperty, IsFile}
-use Rattle.lis_content.specs.Content.{are_within}
-use Rattle.lis_content.specs.Large.{slot_count, file_blocks}
-use Rattle.lis_content.proofs.Indexes.{length-numbers_in, large_blocks, small_blocks}
-use Rattle.lis_content.proofs.Numbers.{below_from_free, within_if_below}
-use Rattle.lis_fields.proofs.Parts.{record_tests, few_blocks as few_in_form, size_fits}
+use Rattle.lis_content.specs.Large.{slot_count, file_blocks, IsIndexed}
+use Rattle.lis_content.proofs.Indexes.{large_blocks, small_blocks}
+use Rattle.lis_fields.proofs.Parts.{record_tests, few_blocks as few_in_form}
 use Rattle.lis_kept.proofs.Contents.{slot_blocks_counted}
-use Rattle.lis_open.specs.ReadFiles.{HasBlocks, AreIndexed, AreReadBlocks}
-use Rattle.lis_model.proofs.Stored.{stored_limit_le}
+use Rattle.lis_open.specs.ReadFiles.{HasBlocks, AreItsBlocks}
+use Rattle.lis_model.proofs.Stored.{stored_limit_le, stored_records, stored_bitmap, fewer_descriptions}
 
 pub fits_after : {a b : Meaning} (journal : Held) (kept : ℕ → List ℕ) → OnlyReads a b → Fits journal a kept → Fits journal b kept
 fits_after journal kept reads fits = fits_unchanged journal reads.run (reads.same fits.honest) fits
@@ -33,7 +30,8 @@ StillRecalls journal old before last = (kept : ℕ → List ℕ) → Fits journa
 -- ---- slots and the values that they spell
 -- the blocks of an image have numbers of 32 bits
 pub few_blocks : (limits : Limits) (blocks : ℕ) → IsTrue (are_stored limits) → blocks ≡ image_blocks limits → blocks < 2 ^ 32
-few_blocks limits blocks range is = search (rules, few_files, mul-le-mul_left, few_properties, few_data)
+few_blocks limits blocks range is =
+    omega (arith, is, stored_records limits range, fewer_descriptions limits range, stored_bitmap limits range, few_files limits range, few_properties limits range, few_data limits range)
 
 -- what is read of a slot, if nothing is staged
 pub slot_read : (slots : Slots) (staged : List HomeBlock) (kept : ℕ → List ℕ) (n : ℕ) (bytes : List ℕ) → staged ≡ [] → bytes ≡ slot slots (looked staged kept) n → bytes ≡ slot slots kept n
@@ -51,57 +49,49 @@ one_property limits at n a b is_a is_b = prop_once a b is_a.range is_b.range (sy
 pub one_file : (limits : Limits) (at : ℕ → List ℕ) (n : ℕ) (a b : FileSlot) → IsFile limits at n a → IsFile limits at n b → a ≡ b
 one_file limits at n a b is_a is_b = file_once limits a b is_a.range is_b.range (sym is_a.bytes ∙ is_b.bytes)
 
--- ---- the blocks of a file as they are read: those that its slot lists, and those that its index block lists
 -- ---- well-formed records
 pub size_of_form : (limits : Limits) (rec : FileRecord) {seen : FileRecord} → IsTrue (are_stored limits) → IsTrue (is_record limits rec) → seen ≡ rec → seen.size ≤ 1048576
 size_of_form limits rec range form view =
     omega (arith, stored_limit_le limits range, (record_tests limits rec form).small, ap (λ (r : FileRecord). r.size) view)
 
-pub slot_of_form : (limits : Limits) (rec : FileRecord) {seen : FileRecord} (slot : List ℕ) → IsTrue (are_stored limits) → IsTrue (is_record limits rec) → seen ≡ rec → slot ≡ seen.blocks → length slot ≡ slot_count seen.size
-slot_of_form limits rec slot range form view same =
+-- a slot has the numbers of index blocks if its file has any, and otherwise those of its blocks
+pub slot_of_form : (limits : Limits) (rec : FileRecord) → IsTrue (are_stored limits) → IsTrue (is_record limits rec) → length rec.blocks ≡ slot_count rec.size
+slot_of_form limits rec range form =
     let tests = record_tests limits rec form in
-    ap length same ∙ (ap (λ (r : FileRecord). length r.blocks) view
-    ∙ (few_in_form limits.version rec.size rec.blocks tests.blocks ∙ (slot_blocks_counted limits rec.size range tests.small ∙ ap (λ (r : FileRecord). slot_count r.size) (sym view))))
+    few_in_form limits.version rec.size rec.blocks tests.blocks ∙ slot_blocks_counted limits rec.size range tests.small
 
--- ---- an index block
-pub numbers_counted : {X : Type 0} (found : Option X) (items : X → List ℕ) (size : ℕ) (block : List ℕ)
-    → IfSome found (λ x. (items x ≡ numbers_in (blocks_needed size) block) × (block ≡ index_bytes (items x))) → IfSome found (λ x. length (items x) ≡ blocks_needed size)
-numbers_counted found items size block some = search (rules, length-numbers_in)
-
--- what was found of its numbers when it was read, stated of what is kept there
-pub numbers_found : {X : Type 0} (found : Option X) (items : X → List ℕ) (size : ℕ) (block held : List ℕ) → block ≡ held
-    → IfSome found (λ x. (items x ≡ numbers_in (blocks_needed size) block) × (block ≡ index_bytes (items x)))
-    → (found ≡ None → block ≡ index_bytes (numbers_in (blocks_needed size) block) → ⊥) → AreIndexed size held (option_map items found)
-numbers_found found items size block held same some none = search (rules)
-
--- ---- all blocks
-pub large_found : (base : ℕ) (slot : List ℕ) (size : ℕ) (at : ℕ → List ℕ) (home : ℕ) (numbers blocks : List ℕ) → is_large size ≡ true → home ≡ index_home base slot
-    → AreIndexed size (at home) (Some numbers) → blocks ≡ numbers ++ slot → AreReadBlocks base slot size at (Some blocks)
-large_found base slot size at home numbers blocks large is_home indexed same = search (rules, large_blocks)
-
-pub large_missed : (base : ℕ) (slot : List ℕ) (size : ℕ) (at : ℕ → List ℕ) (home : ℕ) → is_large size ≡ true → home ≡ index_home base slot → AreIndexed size (at home) None → AreReadBlocks base slot size at None
-large_missed base slot size at home large is_home none = λ indexed. subst (λ h. AreIndexed size (at h) None) is_home none (indexed large)
-
--- by the numbers of the record
-pub read_of : (limits : Limits) (at : ℕ → List ℕ) (rec : FileRecord) {seen : FileRecord} (slot : List ℕ) (found : Option (List ℕ)) → seen ≡ rec → slot ≡ seen.blocks
-    → AreReadBlocks (data_start limits) slot seen.size at found → AreReadBlocks (data_start limits) rec.blocks rec.size at found
-read_of limits at rec {seen} slot found view same are = search (rules)
-
--- ---- free blocks
+-- ---- the blocks of a file
 -- the numbers of the slot are among all
-slot_free : (taken : List Bool) (base : ℕ) (slot : List ℕ) (size : ℕ) (at : ℕ → List ℕ) → are_free taken (file_blocks base slot size at) ≡ true → are_free taken slot ≡ true
-slot_free taken base slot size at free = search (rules, and_parts, list_all-append, large_blocks, small_blocks)
-
--- if they are free, they are within the image
-pub free_within : (limits : Limits) (taken : List Bool) (slot : List ℕ) → length taken ≡ limits.blocks → are_free taken slot ≡ true → IsTrue (are_within (data_start limits) (image_blocks limits) slot)
-free_within limits taken slot len free = within_if_below (data_start limits) (image_blocks limits) (length taken) slot (omega (arith, len)) (below_from_free taken slot free)
+slot_free : (taken : List Bool) (version base : ℕ) (slot : List ℕ) (size : ℕ) (at : ℕ → List ℕ) → are_free taken (file_blocks version base slot size at) ≡ true → are_free taken slot ≡ true
+slot_free taken version base slot size at free = search (rules, and_parts, list_all-append, large_blocks, small_blocks)
 
 module _ (limits : Limits) (at : ℕ → List ℕ) (taken : List Bool) (rec : FileRecord) where
-  pub not_own : {seen : FileRecord} (slot : List ℕ) → seen ≡ rec → slot ≡ seen.blocks → are_free taken slot ≡ false → HasBlocks limits at taken rec → ⊥
-  not_own slot view same taken_one has = search (rules, both_ways, slot_free)
+  pub not_own : (slot : List ℕ) → slot ≡ rec.blocks → are_free taken slot ≡ false → HasBlocks limits at taken rec → ⊥
+  not_own slot same taken_one has = search (rules, both_ways, slot_free)
 
-  pub not_free : (blocks : List ℕ) → AreReadBlocks (data_start limits) rec.blocks rec.size at (Some blocks) → are_free taken blocks ≡ false → HasBlocks limits at taken rec → ⊥
-  not_free blocks are taken_one has = both_ways (are_free taken blocks) taken_one (ap (are_free taken) are.1 ∙ has.free)
+  -- what all blocks of a file are, if each index block was tested as it was read
+  its_blocks : (formed : Bool) (blocks : List ℕ) → (formed ≡ true → HasIndex limits at rec) → (formed ≡ false → HasIndex limits at rec → ⊥) → blocks ≡ blocks_told limits at rec
+      → AreItsBlocks limits at taken rec blocks ((formed && are_free taken blocks) && are_distinct blocks)
+  its_blocks formed blocks good bad told = by formed (are_free taken blocks) (are_distinct blocks) refl refl refl
+    where
+      by : (is all_free all_distinct : Bool) → formed ≡ is → are_free taken blocks ≡ all_free → are_distinct blocks ≡ all_distinct → AreItsBlocks limits at taken rec blocks ((is && all_free) && all_distinct)
+      by false all_free all_distinct is free distinct = λ has. bad is has.indexed
+      by true false all_distinct is free distinct = λ has. both_ways (are_free taken blocks) free (ap (are_free taken) told ∙ has.free)
+      by true true false is free distinct = λ has. both_ways (are_distinct blocks) distinct (ap are_distinct told ∙ has.distinct)
+      by true true true is free distinct = (good is, told)
 
-  pub not_distinct : (blocks : List ℕ) → AreReadBlocks (data_start limits) rec.blocks rec.size at (Some blocks) → are_distinct blocks ≡ false → HasBlocks limits at taken rec → ⊥
-  not_distinct blocks are twice has = both_ways (are_distinct blocks) twice (ap are_distinct are.1 ∙ has.distinct)
+  -- and they were read as the record says, with nothing staged
+  pub read_are : (version base : ℕ) (slot : List ℕ) (size : ℕ) (staged : List HomeBlock) (formed : Bool) (blocks : List ℕ) → version ≡ limits.version → base ≡ data_start limits → slot ≡ rec.blocks → size ≡ rec.size → staged ≡ []
+      → (formed ≡ true → IsIndexed version base slot size (looked staged at)) → (formed ≡ false → IsIndexed version base slot size (looked staged at) → ⊥) → blocks ≡ file_blocks version base slot size (looked staged at)
+      → AreItsBlocks limits at taken rec blocks ((formed && are_free taken blocks) && are_distinct blocks)
+  read_are version base slot size staged formed blocks is_version is_base is_slot is_size none good bad told =
+      its_blocks formed blocks (λ is. subst Indexed same (good is)) (λ is has. bad is (subst Indexed (sym same) has)) (told ∙ ap (λ p. file_blocks p.0 p.1 p.2 p.3 (looked p.4 at)) same)
+    where
+      Parts : Type 0
+      Parts = ℕ × ℕ × List ℕ × ℕ × List HomeBlock
+
+      Indexed : Parts → Type 0
+      Indexed p = IsIndexed p.0 p.1 p.2 p.3 (looked p.4 at)
+
+      same : ◌≡◌ {A = Parts} (version, base, slot, size, staged) (limits.version, data_start limits, rec.blocks, rec.size, [])
+      same = cc

@@ -1,7 +1,7 @@
 -- What is read of a file's content.
 use Rattle.std.proofs.Common.{◌-◌, take-append-drop, length-take-le}
 use Rattle.std.specs.List.{flat_map, list_all}
-use Rattle.lis_open.proofs.Common.{◌≡◌, ◌∙◌, inr, refl, sym, ap, ap₂, subst, ℕ, zero, suc, ◌+◌, ◌*◌, ◌<◌, ◌≤◌, nat_lt, Bool, true, List, [], ◌∷◌, ◌++◌, length, take, drop, get_or, IsTrue, arith, and_parts, ltb-true, length-drop, Meaning, DiskFaultEnds, Held, Fits, FileRecord, is_record, Limits, data_start, list_all-append, blocks_needed, blocks_told, bytes_told, met_tests, all_among, are_stored}
+use Rattle.lis_open.proofs.Common.{◌≡◌, ◌∙◌, inr, sym, ap, ap₂, subst, ℕ, zero, suc, ◌+◌, ◌*◌, ◌<◌, ◌≤◌, nat_lt, Bool, true, List, [], ◌∷◌, ◌++◌, length, take, drop, get_or, IsTrue, arith, and_parts, ltb-true, length-drop, Meaning, DiskFaultEnds, Held, Fits, FileRecord, is_record, Limits, data_start, list_all-append, blocks_needed, blocks_told, bytes_told, met_tests, all_among, are_stored}
 use Rattle.lis_ports.specs.Calls.{OnlyReads}
 use Rattle.lis_ports.specs.Bytes.{part}
 use Rattle.lis_journal.specs.Images.{look}
@@ -84,7 +84,7 @@ content_of_told limits rec kept base count blocks part from needed range form is
     (is
     ∙ (ap (λ n. take n blocks) needed
     ∙ (ap (take (blocks_needed rec.size)) told
-    ∙ content_first (data_start limits) rec.blocks rec.size kept (slot_of_form limits rec rec.blocks range form refl refl))))
+    ∙ content_first limits.version (data_start limits) rec.blocks rec.size kept (slot_of_form limits rec range form))))
 
 pub told_words : (limits : Limits) (rec : FileRecord) (kept : ℕ → List ℕ) (base size : ℕ) (part name bytes : List ℕ) → name ≡ rec.name → size ≡ rec.size
     → content base part rec.size kept ≡ bytes_told limits kept rec → HaveWordsOf name (content base part size kept) bytes → HaveWordsOf rec.name (bytes_told limits kept rec) bytes

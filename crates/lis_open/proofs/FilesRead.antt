@@ -1,7 +1,8 @@
 -- The files of file slots, read one after another.
 use Rattle.std.proofs.Common.{ltb-false, leb-false}
-use Rattle.lis_open.proofs.Common.{rules, ◌≡◌, ◌⊎◌, ◌∙◌, refl, sym, ap, subst, inl, inr, ℕ, ◌+◌, ◌<◌, ◌≤◌, nat_lt, nat_le, Bool, true, false, not, ◌&&◌, ◌||◌, is_some, Option, Some, None, List, [], length, get_or, IsTrue, arith, length-set, get_or-set_same, get_or-set_other, ◌∷◌, IfSome, lt-ltb, leb-true, flat_map, ⊎_elim, list_all, or_cases, or_left, or_right, length-replicate, same_Some, Meaning, DiskFaultEnds, Held, Fits, slot, is_taken, are_free, are_distinct, are_below, word_of, number_below, number_from_word, FileRecord, file_bytes, is_file, is_record, FileSlot, FreeFile, Used, Limits, bytes_told, blocks_told, HasIndex, file_slots, among_from_contains, filed_rec, among_from_number, numbers_at, cases_lt, Among, is_large, index_bytes, numbers_in, index_home, number_of, Filed, prop_bytes, is_prop, axiom_bytes, is_axiom, PropSlot, AxiomSlot, prop_once, axiom_once, same_word, is_valued, head_bytes, same_word_decides, among_from_has_word, data_start, blocks_needed, file_words, own_words, up, is_assignable, property_slots, axiom_slots, words_told, file_told, axioms_of, words_in, word_at, one_array, and_parts, and_from, both_ways, false_from_ne_true, has_number, not_true, all_among, flat_map_among, has_word, has_word_from_among, set_of_among, ⊎_map, cases_Bool}
+use Rattle.lis_open.proofs.Common.{rules, ◌≡◌, ◌⊎◌, ◌∙◌, refl, sym, ap, subst, inl, inr, ℕ, zero, suc, below_more, ◌+◌, ◌<◌, ◌≤◌, nat_lt, nat_le, Bool, true, false, not, ◌&&◌, ◌||◌, is_some, Option, Some, None, List, [], length, get_or, IsTrue, arith, length-set, get_or-set_same, get_or-set_other, ◌∷◌, IfSome, lt-ltb, leb-true, flat_map, ⊎_elim, list_all, or_cases, or_left, or_right, length-replicate, same_Some, Meaning, DiskFaultEnds, Held, Fits, slot, is_taken, are_free, are_distinct, are_below, word_of, number_below, number_from_word, FileRecord, file_bytes, is_file, is_record, FileSlot, FreeFile, Used, Limits, bytes_told, blocks_told, HasIndex, file_slots, among_from_contains, filed_rec, among_from_number, numbers_at, cases_lt, Among, is_large, index_bytes, numbers_in, index_home, number_of, Filed, prop_bytes, is_prop, axiom_bytes, is_axiom, PropSlot, AxiomSlot, prop_once, axiom_once, same_word, is_valued, head_bytes, same_word_decides, among_from_has_word, data_start, file_words, own_words, up, is_assignable, property_slots, axiom_slots, words_told, file_told, axioms_of, words_in, word_at, one_array, and_parts, and_from, both_ways, false_from_ne_true, has_number, not_true, all_among, flat_map_among, has_word, has_word_from_among, set_of_among, ⊎_map, cases_Bool}
 use Rattle.std.proofs.lemmas.Bool.{and_cases, not-false}
+use Rattle.lis_content.specs.Large.{index_count}
 use Rattle.lis_content.proofs.Numbers.{length-marked, below_from_free, below_if_taken}
 use Rattle.lis_graph.specs.Again.{IsAgain, IsFirstAgain}
 use Rattle.lis_catalog.specs.Catalog.{Catalog, IsCatalog, slot_of, HasRecords}
@@ -22,7 +23,7 @@ use Rattle.lis_open.specs.ReadWords.{AreWords, AreFirstWords, AreFirstAxioms, Wo
 use Rattle.lis_open.specs.ReadFiles.{no_files, described, found_words, is_numbered, own_numbers, HasNumbers, AreNumbers, is_assignable_by, is_assignable_number, AreTold, TakesNumbers, TakesRecord, TakesFile, TakenFiles, in_slots, in_catalog, AreTaken, AreFirstRecords, AreFiles, FilesAreSpelled, FilesAreNumbered, FilesHaveBlocks, AreSoFar, RecordsEnded, FilesAreTold, may_describe, HasBlocks, RecordFault, HasSlotFault}
 use Rattle.lis_open.proofs.BlocksRead.{StillRecalls, one_file}
 use Rattle.lis_open.proofs.ContentRead.{same_words}
-use Rattle.lis_open.proofs.Descriptions.{valued_headed, assignable_word, found_own, among_told, described_words, description_long}
+use Rattle.lis_open.proofs.Descriptions.{assignable_word, found_own, among_told, described_words, description_long}
 use Rattle.lis_open.proofs.AxiomsRead.{are_axioms, headless, second_false}
 use Rattle.lis_open.proofs.WordsRead.{nothing_at, told_properties, word_at_told, declared_told, told_word, word_told, axioms_told, file_is_told, are_told}
 use Rattle.lis_open.proofs.Once.{is_taken-marked, each_number}
@@ -240,16 +241,33 @@ used_slot : (o : Option FileRecord) (rec : FileRecord) → file_by o ≡ Used re
 used_slot None rec is = cc
 used_slot (Some r) rec is = cc
 
--- ---- an index block is well formed or malformed
+-- ---- each index block is well formed, or one is malformed
+-- what holds or not of each number holds of all below an end, or not
+all_or_not : (P : ℕ → Type 0) → ((n : ℕ) → P n ⊎ (P n → ⊥)) → (end : ℕ) → ((n : ℕ) → n < end → P n) ⊎ (((n : ℕ) → n < end → P n) → ⊥)
+all_or_not P each zero = inl (λ n lt. absurd (omega (arith, lt)))
+all_or_not P each (suc end) = elim (all_or_not P each end) [
+  | inl below ↦ elim (each end) [ inl here ↦ inl (λ n lt. below_more P end below here n (omega (arith, lt))) | inr not_here ↦ inr (λ all. not_here (all end (omega arith))) ]
+  | inr not_below ↦ inr (λ all. not_below (λ n lt. all n (omega (arith, lt))))
+]
+
+same_or_not : (xs ys : List ℕ) → (xs ≡ ys) ⊎ (xs ≡ ys → ⊥)
+same_or_not xs ys = ⊎_map (same_word_decides xs ys).0 (λ other same. both_ways (same_word xs ys) other ((same_word_decides xs ys).1 same)) (cases_Bool (same_word xs ys))
+
 index_or_not : (limits : Limits) (at : ℕ → List ℕ) (rec : FileRecord) → HasIndex limits at rec ⊎ (HasIndex limits at rec → ⊥)
-index_or_not limits at rec =
-    let held = at (index_home (data_start limits) rec.blocks) in
-    let spelled = index_bytes (numbers_in (blocks_needed rec.size) held) in
-    ⊎_map (λ fine large. (same_word_decides held spelled).0 (valued_headed (is_large rec.size) (same_word held spelled) fine large))
-    (λ bad indexed.
-    let parts = headless (is_large rec.size) (same_word held spelled) bad in
-    both_ways (same_word held spelled) parts.1 ((same_word_decides held spelled).1 (indexed parts.0)))
-    (cases_Bool (not (is_large rec.size) || same_word held spelled))
+index_or_not limits at rec = by (is_large rec.size) refl
+  where
+    held : ℕ → List ℕ
+    held j = at (index_home (data_start limits) rec.blocks j)
+
+    IsFormed : ℕ → Type 0
+    IsFormed j = held j ≡ index_bytes limits.version (numbers_in limits.version (index_count rec.size j) (held j))
+
+    each : ((j : ℕ) → j < length rec.blocks → IsFormed j) ⊎ (((j : ℕ) → j < length rec.blocks → IsFormed j) → ⊥)
+    each = all_or_not IsFormed (λ j. same_or_not (held j) (index_bytes limits.version (numbers_in limits.version (index_count rec.size j) (held j)))) (length rec.blocks)
+
+    by : (large : Bool) → is_large rec.size ≡ large → HasIndex limits at rec ⊎ (HasIndex limits at rec → ⊥)
+    by true is = ⊎_map (λ all _. all) (λ bad indexed. bad (indexed is)) each
+    by false is = inl (λ large. absurd (both_ways (is_large rec.size) is large))
 
 -- a fault is one by all words and axioms, whichever lists they are
 pub file_fault_by : (limits : Limits) (at : ℕ → List ℕ) (n : ℕ) (properties : List PropSlot) (axioms : List AxiomSlot) → FileFails limits at n → AreProperties limits at properties → AreAxioms limits at axioms

@@ -303,7 +303,7 @@ module _ (limits : Limits) (words : Words) (axioms : Axioms) (files : Files) (ma
   entry_record f m = record_in_form limits words.dict limits.blocks f.rec (held_sound.records f.slot f.rec (filed_rec files.catalog held_sound.catalog f m))
 
   short_bytes : (f : Filed) → length (bytes_told limits at f.rec) ≤ f.rec.size
-  short_bytes f = omega (arith, length-take f.rec.size (flat_map (λ b. at (data_start limits + b)) (content_blocks (data_start limits) f.rec.blocks f.rec.size at)))
+  short_bytes f = omega (arith, length-take f.rec.size (flat_map (λ b. at (data_start limits + b)) (content_blocks limits.version (data_start limits) f.rec.blocks f.rec.size at)))
 
   files_formed : FilesAreFormed s
   files_formed = record {

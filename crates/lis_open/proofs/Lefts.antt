@@ -1,13 +1,16 @@
 -- Rows of the left sides of axioms and of their heads, and the words that are not in use.
 use Rattle.std.proofs.Common.{rules}
-use Rattle.std.proofs.Common.{min, ◌↔◌}
-use Rattle.lis_open.proofs.Common.{◌≡◌, ◌∙◌, sym, ap, ap₂, ℕ, ◌/◌, ◌<◌, ◌==◌, Bool, false, List, length, IsTrue, arith, subst, refl, if◌then◌else◌, ◌&&◌, ◌||◌, not, true, cond, Some, None, is_some, list_all, bits_bytes, has, Limits, slot, Row, row_slots, both_ways, list_any, or-false, HasShape, get, with_row, is_taken, Dict, IsDict, word_of, AxiomSlot, Metadata, is_head_by, is_had, is_left_of, is_left_head_of, is_used, Rows}
+use Rattle.std.proofs.Common.{min, ◌↔◌, ◌≢◌}
+use Rattle.lis_open.proofs.Common.{◌≡◌, ◌∙◌, inl, inr, sym, ap, ap₂, ℕ, ◌+◌, ◌*◌, ◌/◌, ◌<◌, ◌≤◌, ◌==◌, Bool, are_stored, image_blocks, few_properties, false, List, length, IsTrue, arith, subst, refl, if◌then◌else◌, ◌&&◌, ◌||◌, not, true, cond, Some, None, is_some, list_all, bits_bytes, has, Limits, slot, Row, row_slots, both_ways, list_any, or-false, HasShape, get, with_row, is_taken, Dict, IsDict, word_of, AxiomSlot, Metadata, is_head_by, is_had, is_left_of, is_left_head_of, is_used, Rows}
 use Rattle.lis_fields.specs.Layouts.{zeros}
 use Rattle.std.proofs.lemmas.Bool.Decides.{nat_tests}
 use Rattle.lis_bits.proofs.Numbers.{bytes_none}
 use Rattle.lis_ext.specs.Ext.{Ext}
 use Rattle.lis_fields.proofs.Widths.{zeros_pass, zeros_of}
-use Rattle.lis_model.specs.Image.{rows_start}
+use Rattle.std.proofs.Math.Nat.{div-lt_iff_lt-mul}
+use Rattle.lis_kept.proofs.InArea.{files_range, some_rows}
+use Rattle.lis_model.specs.Image.{descriptions_start}
+use Rattle.lis_model.proofs.Stored.{each_files_limit, stored_parts, stored_descriptions}
 use Rattle.lis_open.specs.ReadAll.{IsRowSpelled, IsFirstRow, row_place, is_stray}
 use Rattle.lis_kept.specs.Rows.{row_bytes}
 use Rattle.std.proofs.Math.Bool.{or-true, or_assoc}
@@ -32,7 +35,29 @@ pub zeros_decide : (e : Ext) (files number : ℕ) (bytes : List ℕ) (all : Bool
 zeros_decide e files number bytes all count width none is = search (rules, zeros_of, no_file_has, zeros_pass)
 
 -- ---- rows as they are read
-pub row_read : (limits : Limits) (kept : ℕ → List ℕ) (ext : Ext) (p first width : ℕ) (buf : List ℕ) (same : Bool) → first ≡ rows_start limits → width ≡ limits.files / 8
+-- there are rows in versions 1 and 2
+pub has_rows : (limits : Limits) → IsTrue (are_stored limits) → limits.version ≢ 3
+has_rows limits range third = elim ((stored_parts limits range).version) [ inl one ↦ omega (arith, one, third) | inr two ↦ omega (arith, two, third) ]
+
+-- there are few of them
+pub few_rows : (limits : Limits) → IsTrue (are_stored limits) → 4096 / (limits.files / 8) * ((limits.props * limits.files + 32767) / 32768) ≤ 2000000
+few_rows limits range =
+    each_files_limit (λ files. 4096 / (files / 8) * ((limits.props * files + 32767) / 32768) ≤ 2000000) limits.files (files_range limits range)
+    (omega (arith, few)) (omega (arith, few)) (omega (arith, few)) (omega (arith, few)) (omega (arith, few)) (omega (arith, few)) (omega (arith, few))
+  where
+    few : limits.props ≤ 8192
+    few = few_properties limits range
+
+-- each has its place before the bitmap
+pub row_within : (limits : Limits) (p width first blocks : ℕ) → IsTrue (are_stored limits) → p < (row_slots limits).count → width ≡ limits.files / 8 → first ≡ descriptions_start limits → blocks ≡ image_blocks limits
+    → first + p / (4096 / width) < blocks
+row_within limits p width first blocks range lt is_width is_first is_blocks =
+    let rows = (limits.props * limits.files + 32767) / 32768 in
+    let placed : p / (4096 / (limits.files / 8)) < rows = (div-lt_iff_lt-mul {k = 4096 / (limits.files / 8)} {x = p} {y = rows} (some_rows limits range)).1 (omega (arith, lt)) in
+    let same : p / (4096 / width) ≡ p / (4096 / (limits.files / 8)) = ap (λ w. p / (4096 / w)) is_width in
+    omega (arith, placed, same, is_first, is_blocks, stored_descriptions limits range)
+
+pub row_read : (limits : Limits) (kept : ℕ → List ℕ) (ext : Ext) (p first width : ℕ) (buf : List ℕ) (same : Bool) → first ≡ descriptions_start limits → width ≡ limits.files / 8
     → ((count : ℕ) → buf ≡ slot (record { first = first; count = count; width = width }) kept p) → (IsTrue same ↔ (buf ≡ row_bytes ext p)) → IsTrue same ↔ IsRowSpelled limits kept ext p
 row_read limits kept ext p first width buf same start wide read test =
     let there : slot (row_slots limits) kept p ≡ buf =

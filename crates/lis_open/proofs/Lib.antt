@@ -5,6 +5,7 @@ mod SpotKinds
 mod WordsRead
 mod Gathering
 mod BlocksRead
+mod BitmapRead
 mod FilesRead
 mod Once
 mod Joined

@@ -1,13 +1,17 @@
 -- How opening an image ends: the super block, the journal, and the parts after it.
-use Rattle.std.proofs.Common.{slice_index_or}
+use Rattle.std.proofs.Common.{◌≢◌, filter, slice_index_or}
+use Rattle.std.specs.List.{range_with_len}
+use Rattle.lis_fields.specs.Layouts.{set_bytes}
+use Rattle.lis_kept.specs.Areas.{set_slots}
 use Rattle.lis_open.proofs.Common.{rules, ◌≡◌, refl, sym, ap, ap₂, ◌∙◌, subst, inl, inr, ℕ, ◌+◌, ◌/◌, ◌≤◌, ◌<◌, nat_lt, Bool, true, false, cond, List, [], ◌++◌, map, take, replicate, Option, Some, None, IsTrue, IsSomeAnd, arith, fold, flat_map, Contains, ◌⊎◌, ◌*◌, length, Result, Ok, Err, insert_key, list_all, part, bits_bytes, block, Keeps, Slots, slot, marked, are_distinct, is_large, index_bytes, numbers_in, index_home, FileRecord, SpellsSuper, prop_bytes, is_prop, axiom_bytes, is_axiom, file_bytes, is_file, FreeFile, PropSlot, Limits, bitmap_start, data_start, image_blocks, are_stored, State, file_cmp, blocks_needed, property_slots, axiom_slots, file_slots, row_slots, bytes_told, blocks_told, HasIndex, Contents, AreSlots, all_records, spelled_state, is_had_by, word_at, row_bit, replayed, File, file_of_record, same_Some, Meaning, IsSettled, Leaves, Held, Fits, Spot, Super, BadRecord, Tells, Stored, IsSound, contents_of, leaves_weaken, leaves_then, IsWritten, ⊎_map, leb-true, le-leb, and_parts, and_from, nat_le}
 use Rattle.std.proofs.Math.Path.{fun_ext}
 use Rattle.lis_journal.specs.Images.{StandsFor as KeptBy, KeepsPast}
 use Rattle.lis_journal.proofs.Fitting.{replayed-front}
 use Rattle.lis_slots.specs.Slots.{home, place}
 use Rattle.lis_blockmap.specs.Bitmap.{bitmap_bytes}
-use Rattle.lis_content.specs.Large.{content_blocks}
-use Rattle.lis_store.specs.Stands.{all_blocks, Spells, Stands}
+use Rattle.lis_content.specs.Large.{content_blocks, index_count}
+use Rattle.lis_content.proofs.Indexes.{numbers_of_same}
+use Rattle.lis_store.specs.Stands.{set_by, all_blocks, Spells, Stands}
 use Rattle.lis_ports.specs.Calls.{IsUnchanged, OnlyReads}
 use Rattle.lis_ports.specs.Runs.{IsDiskRun}
 use Rattle.lis_journal.specs.Record.{has_open, bad_record, recovered_as, recovered}
@@ -28,74 +32,89 @@ use Rattle.lis_open.proofs.Needs.{one_limits, has_super, needs_no_more}
 use Rattle.lis_open.proofs.Damage.{damaged}
 use Rattle.lis_kept.specs.Image.{image_layout}
 use Rattle.lis_journal.specs.declared.layout.Layout.{Layout}
-use Rattle.lis_model.specs.Image.{properties_start}
+use Rattle.lis_model.specs.Image.{properties_start, bitmap_blocks}
 use Rattle.lis_model.specs.Ranges.{are_in_range}
-use Rattle.lis_model.proofs.Stored.{stored_range}
+use Rattle.lis_model.proofs.Stored.{stored_range, stored_bitmap}
 
 -- ---- slots and bytes depend on home blocks alone
 le_more : (m a b : ℕ) → m ≤ a → m ≤ a + b
 le_more m a b le = omega arith
 
 -- blocks that are the same from the first home block on
-module _ (at there : ℕ → List ℕ) (same : (n : ℕ) → properties_start ≤ n → at n ≡ there n) where
-  same_slots : {X : Type 0} (spelled : X → List ℕ) (is_in_range : X → Bool) (slots : Slots) (values : List X) → properties_start ≤ slots.first
+module _ (limits : Limits) (at there : ℕ → List ℕ) (same : (n : ℕ) → properties_start limits ≤ n → at n ≡ there n) where
+  same_slots : {X : Type 0} (spelled : X → List ℕ) (is_in_range : X → Bool) (slots : Slots) (values : List X) → properties_start limits ≤ slots.first
       → AreSlots spelled is_in_range slots at values → AreSlots spelled is_in_range slots there values
   same_slots spelled is_in_range slots values home_blocks are = record {
     count = are.count;
     each = λ k value is.
         let was = are.each k value is in
-        let here = same (home slots k) (le_more properties_start slots.first _ home_blocks) in
+        let here = same (home slots k) (le_more (properties_start limits) slots.first _ home_blocks) in
         (sym (ap (part (place slots k) slots.width) here) ∙ was.0, was.1);
   }
 
   -- ---- files
-  module _ (limits : Limits) where
-    homes : ◌≡◌ {A = ℕ → List ℕ} (λ b. at (data_start limits + b)) (λ b. there (data_start limits + b))
-    homes = fun_ext (λ b. same (data_start limits + b) (omega arith))
+  homes : ◌≡◌ {A = ℕ → List ℕ} (λ b. at (data_start limits + b)) (λ b. there (data_start limits + b))
+  homes = fun_ext (λ b. same (data_start limits + b) (omega arith))
 
-    index_same : (rec : FileRecord) → at (index_home (data_start limits) rec.blocks) ≡ there (index_home (data_start limits) rec.blocks)
-    index_same rec = same (index_home (data_start limits) rec.blocks) (omega arith)
+  index_same : (rec : FileRecord) (j : ℕ) → at (index_home (data_start limits) rec.blocks j) ≡ there (index_home (data_start limits) rec.blocks j)
+  index_same rec j = same (index_home (data_start limits) rec.blocks j) (omega arith)
 
-    numbers_same : (rec : FileRecord) → content_blocks (data_start limits) rec.blocks rec.size at ≡ content_blocks (data_start limits) rec.blocks rec.size there
-    numbers_same rec = ap (λ bytes. cond (is_large rec.size) (numbers_in (blocks_needed rec.size) bytes) rec.blocks) (index_same rec)
+  numbers_same : (rec : FileRecord) → content_blocks limits.version (data_start limits) rec.blocks rec.size at ≡ content_blocks limits.version (data_start limits) rec.blocks rec.size there
+  numbers_same rec =
+      ap (λ ns. cond (is_large rec.size) ns rec.blocks)
+      (numbers_of_same limits.version (data_start limits) rec.blocks (blocks_needed rec.size) there at (λ j lt. index_same rec j))
 
-    same_blocks : blocks_told limits at ≡ blocks_told limits there
-    same_blocks = fun_ext (λ rec. ap (λ ns. cond (is_large rec.size) (ns ++ rec.blocks) rec.blocks) (numbers_same rec))
+  same_blocks : blocks_told limits at ≡ blocks_told limits there
+  same_blocks = fun_ext (λ rec. ap (λ ns. cond (is_large rec.size) (ns ++ rec.blocks) rec.blocks) (numbers_same rec))
 
-    same_bytes : bytes_told limits at ≡ bytes_told limits there
-    same_bytes = fun_ext (λ rec. ap₂ (λ ns blocks. take rec.size (flat_map blocks ns)) (numbers_same rec) homes)
+  same_bytes : bytes_told limits at ≡ bytes_told limits there
+  same_bytes = fun_ext (λ rec. ap₂ (λ ns blocks. take rec.size (flat_map blocks ns)) (numbers_same rec) homes)
 
-    same_index : (rec : FileRecord) → HasIndex limits at rec → HasIndex limits there rec
-    same_index rec indexed large = subst (λ bytes. bytes ≡ index_bytes (numbers_in (blocks_needed rec.size) bytes)) (index_same rec) (indexed large)
+  same_index : (rec : FileRecord) → HasIndex limits at rec → HasIndex limits there rec
+  same_index rec indexed large j lt =
+      subst (λ bytes. bytes ≡ index_bytes limits.version (numbers_in limits.version (index_count rec.size j) bytes)) (index_same rec j) (indexed large j lt)
 
-    same_files : (properties : List PropSlot) → file_of_record limits properties at ≡ file_of_record limits properties there
-    same_files properties = fun_ext (λ rec. ap (λ (bytes_of : FileRecord → List ℕ). record (file_of_record limits properties at rec) { bytes = bytes_of rec }) same_bytes)
+  same_files : (properties : List PropSlot) → file_of_record limits properties at ≡ file_of_record limits properties there
+  same_files properties = fun_ext (λ rec. ap (λ (bytes_of : FileRecord → List ℕ). record (file_of_record limits properties at rec) { bytes = bytes_of rec }) same_bytes)
 
-    same_spelled : (contents : Contents) (s : State) → Spells limits contents at s → Spells limits contents there s
-    same_spelled contents s spells =
-        let recs = all_records contents.files in
-        let all : all_blocks limits at recs ≡ all_blocks limits there recs = ap (λ blocks. flat_map blocks recs) same_blocks in
-        let file = same_files contents.properties in
-        assumption (
-          same_slots prop_bytes is_prop (property_slots limits) contents.properties (omega arith) spells.properties,
-          same_slots axiom_bytes is_axiom (axiom_slots limits) contents.axioms (omega arith) spells.axioms,
-          same_slots (file_bytes limits.version) (is_file limits) (file_slots limits) contents.files (omega arith) spells.files,
-          spells.state ∙ ap (λ (f : FileRecord → File). record (spelled_state limits contents at) { files = fold (insert_key file_cmp) [] (map f recs) }) file,
-          indexed,
-          subst (λ ns. list_all (λ n. nat_lt n limits.blocks) ns ≡ true) all spells.blocks,
-          subst (λ ns. are_distinct ns ≡ true) all spells.each_block_once,
-          sym (same (bitmap_start limits) (omega arith)) ∙ (spells.bitmap ∙ ap (λ ns. bitmap_bytes (marked (replicate limits.blocks false) ns)) all),
-          rows,
-        )
-      where
-        indexed : (rec : FileRecord) → Contains (all_records contents.files) rec → HasIndex limits there rec
-        indexed rec m = same_index rec (spells.indexed rec m)
+  same_spelled : (contents : Contents) (s : State) → Spells limits contents at s → Spells limits contents there s
+  same_spelled contents s spells =
+      assumption (
+        same_slots prop_bytes is_prop (property_slots limits) contents.properties (omega arith) spells.properties,
+        same_slots axiom_bytes is_axiom (axiom_slots limits) contents.axioms (omega arith) spells.axioms,
+        same_slots (file_bytes limits.version) (is_file limits) (file_slots limits) contents.files (omega arith) spells.files,
+        spells.state ∙ ap (λ (f : FileRecord → File). record (spelled_state limits contents at) { files = fold (insert_key file_cmp) [] (map f recs) }) (same_files contents.properties),
+        indexed,
+        subst (λ ns. list_all (λ n. nat_lt n limits.blocks) ns ≡ true) all spells.blocks,
+        subst (λ ns. are_distinct ns ≡ true) all spells.each_block_once,
+        bitmap,
+        rows,
+        sets,
+      )
+    where
+      recs : List FileRecord
+      recs = all_records contents.files
 
-        rows : (p : ℕ) → p < (row_slots limits).count → slot (row_slots limits) there p ≡ bits_bytes (limits.files / 8) (row_bit s limits contents there p)
-        rows p lt =
-            sym (ap (part (place (row_slots limits) p) (row_slots limits).width) (same (home (row_slots limits) p) (le_more properties_start (row_slots limits).first _ (omega arith))))
-            ∙ (spells.rows p lt
-            ∙ ap (λ f. bits_bytes (limits.files / 8) (λ i. is_had_by s f (word_at contents.properties p) (slice_index_or contents.files i FreeFile))) (same_files contents.properties))
+      all : all_blocks limits at recs ≡ all_blocks limits there recs
+      all = ap (λ blocks. flat_map blocks recs) same_blocks
+
+      indexed : (rec : FileRecord) → Contains (all_records contents.files) rec → HasIndex limits there rec
+      indexed rec m = same_index rec (spells.indexed rec m)
+
+      bitmap : (n : ℕ) → n < bitmap_blocks limits → there (bitmap_start limits + n) ≡ bitmap_bytes n (marked (replicate limits.blocks false) (all_blocks limits there (all_records contents.files)))
+      bitmap n lt = sym (same (bitmap_start limits + n) (omega arith)) ∙ (spells.bitmap n lt ∙ ap (λ ns. bitmap_bytes n (marked (replicate limits.blocks false) ns)) all)
+
+      rows : limits.version ≢ 3 → (p : ℕ) → p < (row_slots limits).count → slot (row_slots limits) there p ≡ bits_bytes (limits.files / 8) (row_bit s limits contents there p)
+      rows before p lt =
+          sym (ap (part (place (row_slots limits) p) (row_slots limits).width) (same (home (row_slots limits) p) (le_more (properties_start limits) (row_slots limits).first _ (omega arith))))
+          ∙ (spells.rows before p lt
+          ∙ ap (λ f. bits_bytes (limits.files / 8) (λ i. is_had_by s f (word_at contents.properties p) (slice_index_or contents.files i FreeFile))) (same_files contents.properties))
+
+      sets : limits.version ≡ 3 → (i : ℕ) → i < (set_slots limits).count → slot (set_slots limits) there i ≡ set_bytes (set_by s limits contents there i)
+      sets third i lt =
+          sym (ap (part (place (set_slots limits) i) (set_slots limits).width) (same (home (set_slots limits) i) (le_more (properties_start limits) (set_slots limits).first _ (omega arith))))
+          ∙ (spells.sets third i lt
+          ∙ ap (λ f. set_bytes (filter (λ p. is_had_by s f (word_at contents.properties p) (slice_index_or contents.files i FreeFile)) (range_with_len 0 limits.props))) (same_files contents.properties))
 
 -- ---- images represent a state
 pub kept_stands : (s : State) (contents : Contents) (at : ℕ → List ℕ) (image : List ℕ) → IsTrue (are_stored s.limits) → SpellsSuper s.limits (at 0) → Spells s.limits contents at s
@@ -107,12 +126,12 @@ kept_stands s contents at image range super spells keeps = by (replayed (image_l
     by None is none = absurd none
     by (Some r) is keep = record {
       range = range;
-      super = subst (λ (bytes : List ℕ). SpellsSuper s.limits bytes) (sym (keep.same 0 (inl refl)) ∙ replayed-front (image_layout s.limits) image r (omega arith) keeps.0 is) super;
+      super = subst (λ (bytes : List ℕ). SpellsSuper s.limits bytes) (sym (keep.same 0 (inl refl)) ∙ replayed-front (image_layout s.limits) image r (omega (arith, stored_bitmap s.limits range)) keeps.0 is) super;
       long = keeps.0;
       replay = r;
       replays = is;
       contents = contents;
-      spells = same_spelled at (λ n. block n r) (λ n le. sym (keep.same n (inr le))) s.limits contents s spells;
+      spells = same_spelled s.limits at (λ n. block n r) (λ n le. sym (keep.same n (inr le))) contents s spells;
     }
 
 -- ---- how opening an image ends: the super block, the journal, and the parts after it
@@ -208,7 +227,12 @@ module _ (old mid : Meaning) (same : IsUnchanged old mid) (len : mid.len ≡ old
   recovers_before new recovers = search (rules)
 
   left_before : (new : Meaning) (result : Result Stored OpenFault) → IsDiskRun mid new → OpenLeft mid new result → OpenLeft old new result
-  left_before new result run left = search (rules, recovers_before, unchanged_then)
+  left_before new (Ok store) run left = recovers_before new left
+  left_before new (Err (TooShort found need)) run left = unchanged_then run same left
+  left_before new (Err (Damaged spot)) run (inl none) = inl (λ told super. none.0 told (subst (λ bytes. HasSuper told bytes) (sym same.bytes) super), unchanged_then run same none.1)
+  left_before new (Err (Damaged spot)) run (inr recovers) = inr (recovers_before new recovers)
+  left_before new (Err DiskFault) run left = tt
+  left_before new (Err NoMemory) run left = unchanged_then run same left
 
   pub opening_before : (new : Meaning) → Leaves old mid old.images → Leaves mid new (InOpening mid) → Leaves old new (InOpening old)
   opening_before new first second =
@@ -271,7 +295,7 @@ module _ (old : Meaning) (limits : Limits) (super : HasSuper limits old.bytes) (
       by : (o : Option (List ℕ)) → o ≡ Some stands.replay → IsSomeAnd o (λ r. KeptBy (image_layout s.limits) (λ n. block n r) image) → Stands image s
       by o is kept =
           kept_stands s stands.contents (λ n. block n stands.replay) image stands.range
-          (subst (λ bytes. SpellsSuper s.limits bytes) (sym (replayed-front (image_layout s.limits) old.bytes stands.replay (omega arith) stands.long stands.replays)) stands.super)
+          (subst (λ bytes. SpellsSuper s.limits bytes) (sym (replayed-front (image_layout s.limits) old.bytes stands.replay (omega (arith, stored_bitmap s.limits stands.range)) stands.long stands.replays)) stands.super)
           stands.spells (at_replay o is kept)
 
   -- ---- the journal
@@ -321,7 +345,7 @@ module _ (old : Meaning) (limits : Limits) (super : HasSuper limits old.bytes) (
 
     super_kept : SpellsSuper limits (block 0 r)
     super_kept =
-        subst (λ bytes. SpellsSuper limits bytes) (sym (replayed-front (image_layout limits) old.bytes r (omega arith) (omega (arith, whole, long)) replays)) super.spelled
+        subst (λ bytes. SpellsSuper limits bytes) (sym (replayed-front (image_layout limits) old.bytes r (omega (arith, stored_bitmap limits super.range)) (omega (arith, whole, long)) replays)) super.spelled
 
     fails_in : (spot : Spot) → Fails limits kept spot → FailsIn old.bytes spot
     fails_in =
@@ -341,7 +365,11 @@ module _ (old : Meaning) (limits : Limits) (super : HasSuper limits old.bytes) (
         cc
 
     parts_first : (spot : Spot) → IsFirstOfAll limits kept spot → FailsFirst old.bytes spot
-    parts_first spot first = search (rules, fails_in, behind, no_bad_record, replayed_fails)
+    parts_first spot first = record {
+      fails = fails_in spot first.fails;
+      none_before = behind old.bytes (λ earlier. IsBefore earlier spot → FailsIn old.bytes earlier → ⊥) (λ before fails. fails limits super) (λ b before fails. no_bad_record b fails)
+          (λ earlier low to from before fails. first.none_before earlier before (replayed_fails earlier (from fails)));
+    }
 
     module _ (journal : Held) (new : Meaning) (fits : Fits journal new kept) (left : Recovers old new) where
       -- the state that a store represents

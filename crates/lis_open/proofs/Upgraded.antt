@@ -1,11 +1,11 @@
 -- A state of version 1 and the metadata of it, in another version: the same except for the limits.
 use Rattle.std.proofs.Common.{rules}
 use Rattle.std.proofs.Common.{take-append-drop}
-use Rattle.lis_open.proofs.Common.{◌≡◌, sym, ap, ◌∙◌, subst, ℕ, ◌+◌, ◌≤◌, nat_le, true, Some, List, length, map, slice_get, sum, IsTrue, arith, ◌⊎◌, refl, ap₂, inl, inr, ◌*◌, ◌==◌, Bool, false, [], ◌∷◌, ◌++◌, take, drop, Result, Ok, Err, if◌then◌else◌, eq-eqb, le-leb, drop-drop, Contains, leb-true, list_all, among_from_contains, Filed, rec_at, are_distinct, Dict, FileRecord, SpellsSuper, Pair, data_start, State, description, WellFormed, Metadata, AreSound, blocks_told, Tells, Meaning, part, Torn, Always, IsSettled, Leaves, part-torn, part-put, block, Keeps, Spreads, Limits, image_blocks, Stored, IsSound, and_parts, and_from, has_number, all_among, File, IsWritten, put, always_settled, leaves_then, leaves_weaken, replayed, recovered, ⊎_map, word_of, is_some, nat_lt, cond, ◌/◌, ◌&&◌}
+use Rattle.lis_open.proofs.Common.{◌≡◌, sym, ap, ◌∙◌, subst, ℕ, ◌+◌, ◌≤◌, nat_le, true, Some, List, length, map, slice_get, sum, IsTrue, arith, ◌⊎◌, refl, ap₂, inl, inr, ◌*◌, ◌==◌, Bool, false, [], ◌∷◌, ◌++◌, take, drop, Result, Ok, Err, if◌then◌else◌, eq-eqb, le-leb, drop-drop, Contains, leb-true, list_all, among_from_contains, contains_from_among, filed_rec, flat_map, slot, property_slots, axiom_slots, file_slots, row_slots, bitmap_start, bytes_told, file_told, state_of, is_large, both_ways, Filed, rec_at, are_distinct, Dict, FileRecord, SpellsSuper, Pair, data_start, State, description, WellFormed, Metadata, AreSound, blocks_told, Tells, Meaning, part, Torn, Always, IsSettled, Leaves, part-torn, part-put, block, Keeps, Spreads, Limits, image_blocks, Stored, IsSound, and_from, has_number, all_among, File, IsWritten, put, always_settled, leaves_then, leaves_weaken, replayed, recovered, ⊎_map, word_of, is_some, nat_lt, cond, ◌/◌, ◌&&◌}
 use Rattle.lis_store.specs.Stands.{Stands}
-use Rattle.std.proofs.lemmas.Bool.{cond-false}
-use Rattle.lis_content.proofs.Indexes.{small_size}
-use Rattle.lis_fields.proofs.Parts.{file_upgraded, file_respelled}
+use Rattle.std.proofs.Math.Path.{fun_ext}
+use Rattle.lis_content.proofs.Indexes.{small_size, small_blocks, small_content}
+use Rattle.lis_fields.proofs.Parts.{file_upgraded, file_respelled, record_tests}
 use Rattle.lis_fields.proofs.Supers.{with_version, upgraded_in_range, upgraded_stored, super_torn, super_upgraded}
 use Rattle.lis_fields.specs.Layouts.{file_bytes, is_record}
 use Rattle.lis_fields.specs.declared.slots.FileSlot.{FileSlot}
@@ -16,11 +16,12 @@ use Rattle.lis_kept.specs.Metadata.{record_at}
 use Rattle.lis_laws.proofs.Counts.{all_weaker}
 use Rattle.lis_model.specs.State.{blocks_needed, blocks_taken}
 use Rattle.lis_model.specs.Ranges.{are_stored}
-use Rattle.lis_model.proofs.Stored.{stored_parts}
+use Rattle.lis_model.proofs.Stored.{stored_parts, stored_records, stored_descriptions}
+use Rattle.lis_kept.specs.Areas.{Area, held_in}
 use Rattle.lis_kept.specs.Areas.Area.{Properties, Axioms, Files, Rows, Bitmap}
 use Rattle.lis_kept.specs.Sound.{is_sound_record, IsSoundAxiom}
 use Rattle.lis_kept.proofs.Filing.{map_all}
-use Rattle.lis_store.proofs.Elsewhere.{AreFilesSame, blocks_there, index_there, file_there, state_there, written_there}
+use Rattle.lis_store.proofs.Elsewhere.{written_there}
 use Rattle.std.proofs.lemmas.List.{drop-take}
 use Rattle.lis_ports.proofs.Parts.{part-part, torn-put, length-part}
 use Rattle.lis_journal.specs.Record.{is_open}
@@ -39,7 +40,7 @@ use Rattle.lis_open.proofs.Needs.{one_limits, has_super}
 use Rattle.lis_open.proofs.Shut.{shut_keeps, shut_stands, shut_torn, recovered_shut}
 use Rattle.lis_kept.specs.Image.{image_layout}
 use Rattle.lis_kept.proofs.Image.{same_layout, same_blocks, same_homes}
-use Rattle.lis_model.specs.Image.{properties_start}
+use Rattle.lis_model.specs.Image.{record_blocks, description_blocks, properties_start, axioms_start, files_start, descriptions_start}
 
 -- ---- a state in a version
 abbrev pub state_in : ℕ → State → State
@@ -81,6 +82,32 @@ formed_upgraded s one formed =
     (subst (λ version. sum (map (λ (file : File). blocks_taken version (length file.bytes)) s.files) ≤ s.limits.blocks) one formed.few_blocks) in
     assumption (upgraded_in_range s.limits one formed.limits, longer s.files short, few)
 
+-- ---- the parts of an image are where they were
+module _ (version : ℕ) (limits : Limits) (range : IsTrue (are_stored limits)) (later : IsTrue (are_stored (with_version version limits))) where
+  records_stay : record_blocks (with_version version limits) ≡ record_blocks limits
+  records_stay = stored_records (with_version version limits) later ∙ sym (stored_records limits range)
+
+  descriptions_stay : description_blocks (with_version version limits) ≡ description_blocks limits
+  descriptions_stay = stored_descriptions (with_version version limits) later ∙ sym (stored_descriptions limits range)
+
+  start_stays : data_start (with_version version limits) ≡ data_start limits
+  start_stays = omega (arith, records_stay, descriptions_stay)
+
+  layout_stays : image_layout limits ≡ image_layout (with_version version limits)
+  layout_stays = ap₂ (λ records blocks. record { records = records; blocks = blocks }) (sym records_stay) (omega (arith, records_stay, descriptions_stay))
+
+  slots_stay : (area : Area) (at : ℕ → List ℕ) (n : ℕ) → held_in (with_version version limits) area at n ≡ held_in limits area at n
+  slots_stay Properties at n =
+      let same : properties_start (with_version version limits) ≡ properties_start limits = omega (arith, records_stay) in ap (λ start. slot (record (property_slots limits) { first = start }) at n) same
+  slots_stay Axioms at n =
+      let same : axioms_start (with_version version limits) ≡ axioms_start limits = omega (arith, records_stay) in ap (λ start. slot (record (axiom_slots limits) { first = start }) at n) same
+  slots_stay Files at n =
+      let same : files_start (with_version version limits) ≡ files_start limits = omega (arith, records_stay) in ap (λ start. slot (record (file_slots limits) { first = start }) at n) same
+  slots_stay Rows at n =
+      let same : descriptions_start (with_version version limits) ≡ descriptions_start limits = omega (arith, records_stay) in ap (λ start. slot (record (row_slots limits) { first = start }) at n) same
+  slots_stay Bitmap at n =
+      let same : bitmap_start (with_version version limits) ≡ bitmap_start limits = omega (arith, records_stay, descriptions_stay) in ap (λ start. at (start + n)) same
+
 -- ---- what memory keeps
 record_upgraded : (limits : Limits) (dict : Dict) (blocks : ℕ) (rec : FileRecord) → limits.version ≡ 1 → IsTrue (is_sound_record limits dict blocks rec)
     → IsTrue (is_sound_record (with_version 2 limits) dict blocks rec)
@@ -91,8 +118,14 @@ record_upgraded limits dict blocks rec one sound =
     (and_from (is_record later rec) (list_all (λ n. is_some (word_of dict n)) rec.tags) (file_upgraded limits (Used rec) one parts.0) parts.1) parts.2
 
 pub sound_upgraded : (k : Metadata) → k.limits.version ≡ 1 → AreSound k → AreSound (metadata_in 2 k)
-sound_upgraded k one sound = assumption (upgraded_stored k.limits sound.range, axioms, records)
+sound_upgraded k one sound = assumption (later, axioms, records, marks)
   where
+    later : IsTrue (are_stored (with_version 2 k.limits))
+    later = upgraded_stored k.limits sound.range
+
+    marks : data_start (with_version 2 k.limits) ≤ length k.marks
+    marks = omega (arith, start_stays 2 k.limits sound.range later, sound.marks)
+
     axioms : (slot left right : ℕ) → slice_get k.axioms slot ≡ Some (Pair left right) → IsSoundAxiom (metadata_in 2 k) slot left right
     axioms slot left right is = assumption (sound.axioms slot left right is)
 
@@ -100,28 +133,56 @@ sound_upgraded k one sound = assumption (upgraded_stored k.limits sound.range, a
     records slot rec is = record_upgraded k.limits k.dict k.limits.blocks rec one (sound.records slot rec is)
 
 -- ---- what memory represents and has written, if all home blocks are the same and the super block has the version
-module _ (version : ℕ) (k : Metadata) (at there : ℕ → List ℕ) (sound : AreSound k) (same : (n : ℕ) → properties_start ≤ n → there n ≡ at n) where
-  files_same : AreFilesSame k at there
-  files_same f m b of = same (data_start k.limits + b) (omega arith)
+module _ (version : ℕ) (k : Metadata) (at there : ℕ → List ℕ) (sound : AreSound k) (one : k.limits.version ≡ 1) (later : IsTrue (are_stored (with_version version k.limits))) (same : (n : ℕ) → properties_start k.limits ≤ n → there n ≡ at n) where
+  abbrev limits : Limits
+  limits = k.limits
 
-  blocks_same : (f : Filed) → Contains k.catalog.entries f → blocks_told k.limits there f.rec ≡ blocks_told k.limits at f.rec
-  blocks_same f m = blocks_there k at there sound files_same f (among_from_contains k.catalog.entries f m)
+  abbrev others : Limits
+  others = with_version version k.limits
 
-  was : (f : Filed) → Contains k.catalog.entries f → (n : ℕ) → has_number (blocks_told k.limits there f.rec) n ≡ true → has_number (blocks_told k.limits at f.rec) n ≡ true
+  -- no file has an index block
+  small : (f : Filed) → Contains k.catalog.entries f → is_large f.rec.size ≡ false
+  small f m =
+      let form = (record_parts limits k.dict limits.blocks f.rec (sound.records f.slot f.rec (filed_rec k.catalog sound.catalog f (among_from_contains k.catalog.entries f m)))).0 in
+      small_size f.rec.size (omega (arith, (record_tests limits f.rec form).small, first_limit limits one))
+
+  blocks_same : (f : Filed) → Contains k.catalog.entries f → blocks_told others there f.rec ≡ blocks_told limits at f.rec
+  blocks_same f m =
+      small_blocks version (data_start others) f.rec.blocks f.rec.size there (small f m)
+      ∙ sym (small_blocks limits.version (data_start limits) f.rec.blocks f.rec.size at (small f m))
+
+  data_same : ◌≡◌ {A = ℕ → List ℕ} (λ b. there (data_start others + b)) (λ b. at (data_start limits + b))
+  data_same = fun_ext (λ b. ap (λ start. there (start + b)) (start_stays version limits sound.range later) ∙ same (data_start limits + b) (omega arith))
+
+  bytes_same : (f : Filed) → Contains k.catalog.entries f → bytes_told others there f.rec ≡ bytes_told limits at f.rec
+  bytes_same f m =
+      small_content version (data_start others) f.rec.blocks f.rec.size there (small f m)
+      ∙ (ap (λ blocks. take f.rec.size (flat_map blocks f.rec.blocks)) data_same
+      ∙ sym (small_content limits.version (data_start limits) f.rec.blocks f.rec.size at (small f m)))
+
+  file_same : (f : Filed) → Contains k.catalog.entries f → file_told others k.dict there f ≡ file_told limits k.dict at f
+  file_same f m = ap (λ (bytes : List ℕ). record (file_told limits k.dict at f) { bytes = bytes }) (bytes_same f m)
+
+  state_same : state_of (metadata_in version k) there ≡ state_in version (state_of k at)
+  state_same =
+      ap (λ (files : List File). record (state_in version (state_of k at)) { files = files })
+      (map_all (file_told others k.dict there) (file_told limits k.dict at) k.catalog.entries (λ f m. file_same f (contains_from_among k.catalog.entries f m)))
+
+  was : (f : Filed) → Contains k.catalog.entries f → (n : ℕ) → has_number (blocks_told others there f.rec) n ≡ true → has_number (blocks_told limits at f.rec) n ≡ true
   was f m n has = ap (λ ns. has_number ns n) (sym (blocks_same f m)) ∙ has
 
   pub tells_in : (s : State) → SpellsSuper (record s.limits { version = version }) (there 0) → WellFormed (state_in version s) → Tells k at s → Tells (metadata_in version k) there (state_in version s)
   tells_in s super formed tells = record {
     super = super;
-    state = ap (state_in version) (state_there k at there sound files_same ∙ tells.state);
+    state = state_same ∙ ap (state_in version) tells.state;
     formed = formed;
     used = tells.used;
-    described = λ f m. tells.described f m ∙ ap (description s) (sym (file_there k at there sound files_same f (among_from_contains k.catalog.entries f m)));
+    described = λ f m. tells.described f m ∙ ap (description s) (sym (file_same f m));
     taken = λ n lt is.
         let b = tells.taken n lt is in
         record { file = b.file; kept = b.kept; has = ap (λ ns. has_number ns n) (blocks_same b.file b.kept) ∙ b.has };
     given = λ f m n has. tells.given f m n (was f m n has);
-    indexed = λ f m. index_there k at there sound files_same f (among_from_contains k.catalog.entries f m) (tells.indexed f m);
+    indexed = λ f m large. absurd (both_ways (is_large f.rec.size) (small f m) large);
     apart = λ f m. ap are_distinct (blocks_same f m) ∙ tells.apart f m;
     one_use = λ f g mf mg n has_f has_g. tells.one_use f g mf mg n (was f mf n has_f) (was g mg n has_g);
   }
@@ -130,7 +191,14 @@ module _ (version : ℕ) (k : Metadata) (at there : ℕ → List ℕ) (sound : A
   pub written_in : ((slot : FileSlot) → file_bytes k.limits.version slot ≡ file_bytes version slot) → IsWritten k at → IsWritten (metadata_in version k) there
   written_in alike written =
       let all = written_there k at there sound.range (λ n low lt. same n low) written in
-      elim [ Properties ↦ all Properties | Axioms ↦ all Axioms | Files ↦ λ n lt. all Files n lt ∙ alike (record_at k.catalog n) | Rows ↦ all Rows | Bitmap ↦ all Bitmap ]
+      let stays = slots_stay version limits sound.range later in
+      elim [
+        | Properties ↦ λ n lt. stays Properties there n ∙ all Properties n lt
+        | Axioms ↦ λ n lt. stays Axioms there n ∙ all Axioms n lt
+        | Files ↦ λ n lt. stays Files there n ∙ (all Files n lt ∙ alike (record_at k.catalog n))
+        | Rows ↦ λ n lt. stays Rows there n ∙ all Rows n lt
+        | Bitmap ↦ λ n lt. stays Bitmap there n ∙ all Bitmap n lt
+      ]
 
 -- ---- the gate of an image's version is written: each image meanwhile represents the state as before or in version 2, and the last one the
 -- state in version 2
@@ -170,7 +238,7 @@ module _ (k : Stored) (m : Meaning) (s : State) (sound : IsSound k) (fits : Stor
     whole : 4096 ≤ length image
     whole = omega (arith, long, same_blocks sound.image)
 
-    same : (n : ℕ) → properties_start ≤ n → block n image ≡ fits.kept n
+    same : (n : ℕ) → properties_start k.metadata.limits ≤ n → block n image ≡ fits.kept n
     same n low = part-torn 24 1 m.bytes image torn (4096 * n) 4096 (inr (omega (arith, low))) ∙ keeps.same n (inr (omega (arith, low, same_homes sound.image)))
 
     front : take 24 (block 0 image) ≡ take 24 (block 0 m.bytes)
@@ -182,10 +250,11 @@ module _ (k : Stored) (m : Meaning) (s : State) (sound : IsSound k) (fits : Stor
     -- it represents the state in the version of its super block
     stands_in : (version : ℕ) → ((slot : FileSlot) → file_bytes 1 slot ≡ file_bytes version slot) → SpellsSuper (record s.limits { version = version }) (block 0 image) → AreSound (metadata_in version k.metadata) → WellFormed (state_in version s) → Stands image (state_in version s)
     stands_in version alike super sound_then formed =
+        let later = sound_then.range in
         change_stands (record k { metadata = metadata_in version k.metadata }) k.journal.layout (λ n. block n image) (state_in version s) sound_then sound.free sound.pairs
-        (tells_in version k.metadata fits.kept (λ n. block n image) sound.metadata same s super formed fits.tells)
-        (written_in version k.metadata fits.kept (λ n. block n image) sound.metadata same (λ slot. ap (λ v. file_bytes v slot) kept_one ∙ alike slot) fits.written)
-        (same_layout sound.image) image (shut_stands k.journal.layout image (shut_torn 24 1 m.bytes image (omega arith) torn shut) long)
+        (tells_in version k.metadata fits.kept (λ n. block n image) sound.metadata kept_one later same s super formed fits.tells)
+        (written_in version k.metadata fits.kept (λ n. block n image) sound.metadata kept_one later same (λ slot. ap (λ v. file_bytes v slot) kept_one ∙ alike slot) fits.written)
+        (same_layout sound.image ∙ layout_stays version k.metadata.limits sound.metadata.range later) image (shut_stands k.journal.layout image (shut_torn 24 1 m.bytes image (omega arith) torn shut) long)
 
     stands_before : SpellsSuper s.limits (block 0 image) → Stands image s
     stands_before super =

@@ -95,24 +95,25 @@ length-rest limits =
     length-drop 1 (super_bytes limits) ∙ ap (λ n. n - 1) whole
 
 -- what the writes of all but the first byte give, one after another
-pub wiped : (limits : Limits) (end : ℕ) (start rest gate homes : List ℕ) → end ≡ data_start limits → 4096 * image_blocks limits ≤ length start → rest ≡ put start 1 (rest_of_super limits)
-    → Torn 4096 4096 rest gate → AreZeros 1 2 gate → Torn 2367488 (4096 * (end - properties_start)) gate homes → AreZeros properties_start end homes → IsWiped limits homes
-wiped limits end start rest gate homes is_end long is_rest torn_gate zero_gate torn_homes zero_homes =
+pub wiped : (limits : Limits) (first end : ℕ) (start rest gate homes : List ℕ) → first ≡ properties_start limits → end ≡ data_start limits → 4096 * image_blocks limits ≤ length start
+    → rest ≡ put start 1 (rest_of_super limits) → Torn 4096 4096 rest gate → AreZeros 1 2 gate → Torn (4096 * first) (4096 * (end - first)) gate homes → AreZeros first end homes → IsWiped limits homes
+wiped limits first end start rest gate homes is_first is_end long is_rest torn_gate zero_gate torn_homes zero_homes =
     let few : 1 + length (rest_of_super limits) ≤ length start = omega (arith, length-rest limits, long) in
     let size : length rest ≡ length start = ap length is_rest ∙ length-put start 1 (rest_of_super limits) few in
     let spelled : part 1 4095 rest ≡ rest_of_super limits =
     ap (part 1 4095) is_rest ∙ (ap (λ n. part 1 n (put start 1 (rest_of_super limits))) (sym (length-rest limits)) ∙ part-put start 1 (rest_of_super limits) few) in
     let zero : part 0 64 (block 1 gate) ≡ zeros 64 = ap (part 0 64) (zero_gate 1 (omega arith) (omega arith)) ∙ zeros-part 0 64 4096 (omega arith) in
+    let low : 8192 ≤ 4096 * first = omega (arith, is_first) in
     record {
-      rest = part-torn 2367488 (4096 * (end - properties_start)) gate homes torn_homes 1 4095 (inl (omega arith))
+      rest = part-torn (4096 * first) (4096 * (end - first)) gate homes torn_homes 1 4095 (inl (omega (arith, low)))
           ∙ (part-torn 4096 4096 rest gate torn_gate 1 4095 (inl (omega arith)) ∙ spelled);
       blank = record {
         long = omega (arith, torn_homes.len, torn_gate.len, size, long);
-        gates = part-torn 2367488 (4096 * (end - properties_start)) gate homes torn_homes 4096 64 (inl (omega arith))
+        gates = part-torn (4096 * first) (4096 * (end - first)) gate homes torn_homes 4096 64 (inl (omega (arith, low)))
             ∙ (sym (part-part 0 64 4096 4096 gate (omega arith)) ∙ (zero ∙ sym (zeros_are 64)));
-        homes = λ n above below. zero_homes n above (omega (arith, is_end));
+        homes = λ n above below. zero_homes n (omega (arith, above, is_first)) (omega (arith, below, is_end));
       };
-      zero = part-torn 2367488 (4096 * (end - properties_start)) gate homes torn_homes 4096 4096 (inl (omega arith)) ∙ zero_gate 1 (omega arith) (omega arith);
+      zero = part-torn (4096 * first) (4096 * (end - first)) gate homes torn_homes 4096 4096 (inl (omega (arith, low))) ∙ zero_gate 1 (omega arith) (omega arith);
     }
 
 -- the first byte does not matter
@@ -177,7 +178,7 @@ named_stands {old} limits range all settled =
 pub spare_trans : (limits : Limits) (x y z : List ℕ) → KeepsSpare limits x y → KeepsSpare limits y z → KeepsSpare limits x z
 spare_trans limits x y z xy yz n is = yz n is ∙ xy n is
 
-spare_torn : (limits : Limits) (at n : ℕ) (from image : List ℕ) → (at + n ≤ 8192) ⊎ ((2367488 ≤ at) × (at + n ≤ 4096 * data_start limits)) → Torn at n from image → KeepsSpare limits from image
+spare_torn : (limits : Limits) (at n : ℕ) (from image : List ℕ) → (at + n ≤ 8192) ⊎ ((4096 * properties_start limits ≤ at) × (at + n ≤ 4096 * data_start limits)) → Torn at n from image → KeepsSpare limits from image
 spare_torn limits at n from image within torn k is = part-torn at n from image torn (4096 * k) 4096 (grind (arith, within, is))
 
 -- the first byte is in the super block
@@ -191,7 +192,7 @@ pub wiping_trans : (limits : Limits) (x y z : List ℕ) → IsWiping limits x y 
 wiping_trans limits x y z xy yz = record { first = yz.first ∙ xy.first; spare = spare_trans limits x y z xy.spare yz.spare }
 
 -- a range of the super block and the gate block without the first byte, or one of the home blocks before the data blocks
-pub spreads_wiping : {old new : Meaning} (limits : Limits) (at n : ℕ) → 1 ≤ at → (at + n ≤ 8192) ⊎ ((2367488 ≤ at) × (at + n ≤ 4096 * data_start limits)) → Spreads old new (Torn at n) → Spreads old new (IsWiping limits)
+pub spreads_wiping : {old new : Meaning} (limits : Limits) (at n : ℕ) → 1 ≤ at → (at + n ≤ 8192) ⊎ ((4096 * properties_start limits ≤ at) × (at + n ≤ 4096 * data_start limits)) → Spreads old new (Torn at n) → Spreads old new (IsWiping limits)
 spreads_wiping limits at n some within spreads = spreads_weaken (IsWiping limits) spreads (λ from image torn. record {
   first = part-torn at n from image torn 0 1 (inl (omega (arith, some)));
   spare = spare_torn limits at n from image within torn;
@@ -204,11 +205,11 @@ rest_spreads limits = spreads_wiping limits 1 4095 (omega arith) (inl (omega ari
 pub gate_spreads : {a b c : Meaning} (limits : Limits) → Spreads a b (Torn 1 4095) → Spreads b c (Torn 4096 4096) → Spreads a c (IsWiping limits)
 gate_spreads limits rest gate = spreads_then (IsWiping limits) (wiping_trans limits) (rest_spreads limits rest) (spreads_wiping limits 4096 4096 (omega arith) (inl (omega arith)) gate)
 
-pub homes_spreads : {a b c d : Meaning} (limits : Limits) (end : ℕ) → end ≡ data_start limits → Spreads a b (Torn 1 4095) → Spreads b c (Torn 4096 4096) → Spreads c d (Torn 2367488 (4096 * (end - properties_start)))
-    → Spreads a d (IsWiping limits)
-homes_spreads limits end is_end rest gate homes =
+pub homes_spreads : {a b c d : Meaning} (limits : Limits) (first end : ℕ) → first ≡ properties_start limits → end ≡ data_start limits → Spreads a b (Torn 1 4095) → Spreads b c (Torn 4096 4096)
+    → Spreads c d (Torn (4096 * first) (4096 * (end - first))) → Spreads a d (IsWiping limits)
+homes_spreads limits first end is_first is_end rest gate homes =
     spreads_then (IsWiping limits) (wiping_trans limits) (gate_spreads limits rest gate)
-    (spreads_wiping limits 2367488 (4096 * (end - properties_start)) (omega arith) (inr (omega arith, omega (arith, is_end))) homes)
+    (spreads_wiping limits (4096 * first) (4096 * (end - first)) (omega (arith, is_first)) (inr (omega (arith, is_first), omega (arith, is_first, is_end))) homes)
 
 -- ---- the runs of making
 pub named_spreads : {old new : Meaning} (limits : Limits) → Spreads old new (Torn 0 1) → Spreads old new (KeepsSpare limits)

@@ -131,6 +131,7 @@ fn read_bits<D: Disk>(
     ensures disk { ReadsDisk (D.meaning disk.old) (D.meaning disk.new) result }
     ensures same { IfOk result (λ found. IfNone found ((kept : ℕ → List ℕ) → Fits journal.now (D.meaning disk.old) kept
         → kept (bitmap_start limits.now + n) ≡ bitmap_bytes n map.now)) }
+    ensures within { IfOk result (λ found. IfSome found (λ bit. bit < BLOCK_BITS)) }
     ensures differs { IfOk result (λ found. IfSome found (λ bit. (kept : ℕ → List ℕ) → Fits journal.now (D.meaning disk.old) kept
         → IsFirstDifference n (kept (bitmap_start limits.now + n)) map.now bit)) }
 {

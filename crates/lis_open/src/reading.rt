@@ -173,6 +173,7 @@ pub fn read_store<D: Disk>(
             return Err(fault);
         }
     };
+    let scratch = later.scratch;
     let metadata = Metadata::join(Fields {
         limits,
         dict: words.dict,
@@ -187,6 +188,6 @@ pub fn read_store<D: Disk>(
     Ok(Store::join(Built {
         metadata,
         journal,
-        bytes: later.scratch.bytes,
+        bytes: scratch.bytes,
     }))
 }

@@ -1,27 +1,36 @@
-use Rattle.lis_open.proofs.Common.{◌≡◌, ◌∙◌, refl, sym, ap, subst, ℕ, List, [], bitmap_start}
-use Rattle.lis_blockmap.specs.Bitmap.{IsFirstDifference}
-use Rattle.lis_journal.specs.Images.{look}
-use Rattle.lis_journal.specs.Record.{HomeBlock}
+use Rattle.lis_open.proofs.Common.{◌∙◌, refl, arith, ends_then}
+use Rattle.lis_kept.proofs.InArea.{few_blocks}
+use Rattle.lis_ports.proofs.OnlyReading.{reads_then}
+use Rattle.lis_open.proofs.BlocksRead.{fits_after}
+use Rattle.lis_open.proofs.BitmapRead.{first_bit, spelled_more}
 use Rattle.lis_open.proofs.checks.check_bitmap.Goals as goal
-use Rattle.std.proofs.Common.{arith}
-use Rattle.lis_kept.proofs.Image.{same_homes, same_blocks}
 
--- a block that is read, if nothing is staged
-block_read : (staged : List HomeBlock) (kept : ℕ → List ℕ) (n m : ℕ) (bytes : List ℕ) → staged ≡ [] → n ≡ m → bytes ≡ look staged n (kept n) → bytes ≡ kept m
-block_read staged kept n m bytes none same read = read ∙ (ap (λ es. look es n (kept n)) none ∙ ap kept same)
+pub overflow_add-result : goal.overflow_add-result
+overflow_add-result g c =
+    let within = rw c.in-Some.is at (c.in_ok-bit.ensures.within) in
+    omega (arith, within, c.loop-n-test.true, c.bitmap_blocks-n-end.ensures, few_blocks c.args.limits.now c.requires.readable.range)
 
-pub read-requires-clause-home : goal.read-requires-clause-home
-read-requires-clause-home g c = omega (arith, c.bitmap_start.ensures, same_homes c.requires.readable.image)
-
-pub read-requires-clause-within : goal.read-requires-clause-within
-read-requires-clause-within g c = omega (arith, c.bitmap_start.ensures, same_blocks c.requires.readable.image)
-
-pub returns-in-None-clause-ended : goal.returns-in-None-clause-ended
-returns-in-None-clause-ended g c = λ kept fits.
-    let read = block_read c.args.journal.now.staged kept c.bitmap_start.result (bitmap_start c.args.limits.now) c.read.new.buf c.requires.readable.clean c.bitmap_start.ensures (c.in_ok-read.ensures.read kept fits) in
-    sym read ∙ c.in-None.ensures.same
+pub loop-n-preserved : goal.loop-n-preserved
+loop-n-preserved g c =
+    let was = c.loop-n.invariant in
+    let read = c.in_ok-bit.ensures in
+    let same = rw c.in_default.is at (read.same) in
+    record {
+      reads = reads_then was.reads c.read_bits.ensures.disk.reads;
+      faults = read.disk.cause.stays ∙ was.faults;
+      first_fault = ends_then was.first_fault was.faults read.disk.first_fault;
+      same = λ kept fits. spelled_more c.args.limits.now kept c.args.map.now c.loop-n.n (was.same kept fits) (same kept (fits_after c.args.journal.now kept was.reads fits));
+    }
 
 pub returns-in-Some-clause-ended : goal.returns-in-Some-clause-ended
 returns-in-Some-clause-ended g c = λ kept fits.
-    let read = block_read c.args.journal.now.staged kept c.bitmap_start.result (bitmap_start c.args.limits.now) c.read.new.buf c.requires.readable.clean c.bitmap_start.ensures (c.in_ok-read.ensures.read kept fits) in
-    (c.in-Some.n, refl, subst (λ bytes. IsFirstDifference bytes c.args.map.now c.in-Some.n) read c.in-Some.ensures.differs)
+    let was = c.loop-n.invariant in
+    let differs = rw c.in-Some.is at (c.in_ok-bit.ensures.differs) in (
+      _,
+      refl,
+      first_bit c.args.limits.now kept c.args.map.now c.loop-n.n c.in-Some.bit (omega (arith, c.loop-n-test.true, c.bitmap_blocks-n-end.ensures)) (was.same kept fits)
+          (differs kept (fits_after c.args.journal.now kept was.reads fits)),
+    )
+
+pub returns-clause-ended : goal.returns-clause-ended
+returns-clause-ended g c = λ kept fits n lt. c.loop-n.invariant.same kept fits n (omega (arith, lt, c.loop-n-test.false, c.bitmap_blocks-n-end.ensures))

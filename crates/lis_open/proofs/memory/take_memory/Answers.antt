@@ -2,9 +2,6 @@ use Rattle.lis_open.proofs.Common.{rules}
 use Rattle.lis_kept.proofs.InArea.{whole_properties}
 use Rattle.lis_open.proofs.memory.take_memory.Goals as goal
 
-pub returns-in_err-bytes : goal.returns-in_err-bytes
-returns-in_err-bytes c = search rules
-
 pub returns-in_err-marks : goal.returns-in_err-marks
 returns-in_err-marks c = search rules
 

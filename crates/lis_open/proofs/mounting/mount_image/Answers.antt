@@ -12,19 +12,23 @@ use Rattle.lis_open.proofs.Opening.{one_fault, memory_opened, journal_cause, jou
 use Rattle.lis_open.specs.Opens.{journal_fault}
 use Rattle.lis_open.proofs.mounting.mount_image.Goals as goal
 use Rattle.lis_kept.specs.Image.{image_layout}
+use Rattle.lis_kept.proofs.Image.{stored_staged, stored_placed}
+use Rattle.lis_model.proofs.Stored.{stored_records, stored_bitmap}
 use Rattle.lis_journal.specs.declared.layout.Layout.{Layout}
 
 pub mount-requires-clause-blocks : goal.mount-requires-clause-blocks
-mount-requires-clause-blocks g c = omega (arith, ap (λ (l : Layout). l.records) c.image_layout-layout.ensures, ap (λ (l : Layout). l.blocks) c.image_layout-layout.ensures)
+mount-requires-clause-blocks g c =
+    omega (arith, ap (λ (l : Layout). l.records) c.image_layout-layout.ensures, ap (λ (l : Layout). l.blocks) c.image_layout-layout.ensures, stored_bitmap c.args.limits c.requires.range)
 
 pub mount-requires-clause-few : goal.mount-requires-clause-few
-mount-requires-clause-few g c = omega (arith, ap (λ (l : Layout). l.records) c.image_layout-layout.ensures)
+mount-requires-clause-few g c = omega (arith, ap (λ (l : Layout). l.records) c.image_layout-layout.ensures, stored_records c.args.limits c.requires.range)
 
 pub mount-requires-clause-fits : goal.mount-requires-clause-fits
-mount-requires-clause-fits g c = omega (arith, ap (λ (l : Layout). l.records) c.image_layout-layout.ensures, ap (λ (k : Capacity). k.staged) c.image_capacity.ensures)
+mount-requires-clause-fits g c =
+    omega (arith, ap (λ (l : Layout). l.records) c.image_layout-layout.ensures, ap (λ (k : Capacity). k.staged) c.image_capacity.ensures, stored_records c.args.limits c.requires.range, stored_staged c.args.limits c.requires.range)
 
 pub mount-requires-clause-placed : goal.mount-requires-clause-placed
-mount-requires-clause-placed g c = omega (arith, ap (λ (k : Capacity). k.placed) c.image_capacity.ensures)
+mount-requires-clause-placed g c = omega (arith, ap (λ (k : Capacity). k.placed) c.image_capacity.ensures, stored_placed c.args.limits c.requires.range)
 
 pub mount-requires-clause-long : goal.mount-requires-clause-long
 mount-requires-clause-long g c = omega (arith, ap (λ (l : Layout). l.blocks) c.image_layout-layout.ensures, c.requires.long)

@@ -27,7 +27,7 @@ returns-clause-ended g c = λ honest.
     super_read old.bytes c.read_at.new.buf c.in-Some.limits (c.in_ok-read_at.ensures.read honest) c.in-Some.ensures.spelled (omega (arith, c.if-limits-gt2.false))
 
 pub image_blocks-requires : goal.image_blocks-requires
-image_blocks-requires g c = old_enough c.in-Some.limits c.in-Some.ensures.spelled.0 (omega (arith, c.if-limits-gt2.false))
+image_blocks-requires g c = c.in-Some.ensures.spelled.0
 
 pub returns-clause-range : goal.returns-clause-range
 returns-clause-range g c = old_enough c.in-Some.limits c.in-Some.ensures.spelled.0 (omega (arith, c.if-limits-gt2.false))

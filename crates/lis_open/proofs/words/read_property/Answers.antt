@@ -16,5 +16,6 @@ read_slot-requires-clause-few g c = few_blocks c.args.limits.now _ c.requires.re
 pub returns-clause-read : goal.returns-clause-read
 returns-clause-read g c = λ kept fits recalls.
     let limits = c.args.limits.now in
+    let starts = c.properties_start.ensures in
     let read = c.in_ok-read_slot.ensures.read kept fits recalls limits.props in
-    read_as prop_bytes is_prop (property_slots limits) kept c.args.number c.read_prop.result c.read_slot.new.buf c.requires.number read c.read_prop.ensures.spelled c.read_prop.ensures.same
+    read_as prop_bytes is_prop (property_slots limits) kept c.args.number c.read_prop.result c.read_slot.new.buf c.requires.number (rw starts at read) c.read_prop.ensures.spelled c.read_prop.ensures.same
