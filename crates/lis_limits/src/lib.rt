@@ -23,7 +23,7 @@ pub const MAX_STAGED: u32 = 575;
 pub const V3_MAX_STAGED: u32 = 893;
 
 /// The most blocks that one change places in versions 1 and 2, that is, writes straight to their homes: the blocks of a file's content and
-/// their index.
+/// its index block.
 pub const MAX_PLACED: u32 = 257;
 
 /// The most blocks that one change places in version 3.
@@ -68,7 +68,7 @@ pub const SMALL_FILE: usize = 1_024;
 /// A file that is not small, and has fewer bytes than this, is a medium one.
 pub const MEDIUM_FILE: usize = 16_384;
 
-/// The most blocks of a content of any version, without its index.
+/// The most blocks of a content of any version, without its index blocks.
 pub const MAX_FILE_BLOCKS: usize = 16_384;
 
 /// Bytes of the slot of a word.

@@ -12,7 +12,7 @@ set_blocks limits = limits.files / SETS_PER_BLOCK
 unfoldable pub record_blocks : Limits → ℕ
 record_blocks limits = if limits.version == 3 then set_blocks limits + V3_RECORD_BLOCKS else RECORD_BLOCKS
 
--- How many blocks say which words each file has: in version 3 they have a set for each file, and before it a row of bits for each word.
+-- How many blocks say which words each file has: in versions 1 and 2 they have a row of bits for each word, in version 3 a set for each file.
 unfoldable pub description_blocks : Limits → ℕ
 description_blocks limits = if limits.version == 3 then set_blocks limits else (limits.props * limits.files + (BLOCK_BITS - 1)) / BLOCK_BITS
 
