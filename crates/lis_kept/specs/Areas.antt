@@ -68,6 +68,10 @@ held_in limits Files at n = slot (file_slots limits) at n
 held_in limits Rows at n = slot (row_slots limits) at n
 held_in limits Bitmap at n = at (bitmap_start limits + n)
 
+-- each block of the bitmap shows which data blocks are taken
+abbrev pub AreBitmapBlocks : Limits → (ℕ → List ℕ) → List Bool → Type 0
+AreBitmapBlocks limits at taken = (n : ℕ) → n < bitmap_blocks limits → at (bitmap_start limits + n) ≡ bitmap_bytes n taken
+
 -- every slot is spelled by what memory keeps
 abbrev pub IsWritten : Metadata → (ℕ → List ℕ) → Type 0
 IsWritten k at = (area : Area) (n : ℕ) → n < (slots_of k.limits area).count → held_in k.limits area at n ≡ spelled k area n

@@ -109,7 +109,7 @@ pub record Files (slot : ℕ) (rec : FileRecord) (p q : Metadata) : Type 0 where
 abbrev pub bitmap_homes : Limits → List ℕ → List ℕ
 bitmap_homes limits blocks = map (bitmap_home limits) (filter (λ b. nat_lt b limits.blocks) blocks)
 
--- Of these blocks others are taken than before, and exactly the blocks of the bitmap that have their bits are marked.
+-- Now `taken` is what is taken, and exactly the blocks of the bitmap that have the bits of these data blocks are marked besides.
 pub record Takes (blocks : List ℕ) (taken : List Bool) (p q : Metadata) : Type 0 where
   pub metadata : q ≡ record p { taken = taken; marks = marked p.marks (bitmap_homes p.limits blocks) }
   pub len : length taken ≡ length p.taken

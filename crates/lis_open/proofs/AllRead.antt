@@ -22,8 +22,9 @@ use Rattle.lis_open.specs.declared.files.Files.{Files}
 use Rattle.lis_open.specs.Checks.{AreContents, IsUsed, WordFails, BitFails, RowFault, RowFails, Fails, has_bitmap_bit, rank}
 use Rattle.lis_open.specs.ReadWords.{AreFirstWords, AreFirstAxioms, WordsAreSpelled, AxiomsAreSpelled}
 use Rattle.lis_open.specs.ReadFiles.{in_catalog, AreFiles, FilesEnded}
-use Rattle.lis_open.specs.ReadAll.{metadata_in, AreNoMarks, is_stray, IsFirstStray, IsRowSpelled, IsFirstRow, row_place, AreSlotsRead, SlotsEnded, AreRead, HasStray, IsFirstBit, BitmapDiffers, AreBitmapBlocks, RowsChecked, PartsEnded}
+use Rattle.lis_open.specs.ReadAll.{metadata_in, AreNoMarks, is_stray, IsFirstStray, IsRowSpelled, IsFirstRow, row_place, AreSlotsRead, SlotsEnded, AreRead, HasStray, IsFirstBit, BitmapDiffers, RowsChecked, PartsEnded}
 use Rattle.lis_open.proofs.Once.{rising_map}
+use Rattle.lis_kept.specs.Areas.{AreBitmapBlocks}
 use Rattle.lis_open.proofs.Descriptions.{told_among, among_told, one_number, pair_among, among_pair, Sides, sides}
 use Rattle.lis_open.proofs.FilesRead.{file_is, slot_read, used_is, rec_is}
 use Rattle.lis_open.proofs.AxiomsRead.{are_axioms}

@@ -18,10 +18,10 @@ use Rattle.lis_words.specs.Words.{is_plain_word, is_valued, head_bytes, has_word
 use Rattle.lis_model.specs.declared.limits.Limits.{Limits}
 use Rattle.lis_model.specs.declared.spot.Spot.{Spot}
 use Rattle.lis_model.specs.declared.spot.Spot.TheVariants.{Super, BadRecord, Property, Axiom, File, Word, Bitmap, Row, Set}
-use Rattle.lis_model.specs.Image.{bitmap_start, bitmap_blocks}
+use Rattle.lis_model.specs.Image.{bitmap_blocks}
 use Rattle.lis_model.specs.Sets.{set_of, are_distinct, has_number}
 use Rattle.lis_model.specs.State.{Entails, file_words, known, is_assignable, is_nameable, pair_cmp}
-use Rattle.lis_kept.specs.Areas.{property_slots, axiom_slots, file_slots, row_slots, set_slots}
+use Rattle.lis_kept.specs.Areas.{bitmap_home, property_slots, axiom_slots, file_slots, row_slots, set_slots}
 use Rattle.lis_kept.specs.Telling.{blocks_told, HasIndex}
 use Rattle.lis_store.specs.Stands.{Contents, AreSlots, word_in, words_in, word_at, all_declared, pairs_in, file_by, spelled_state, row_bit, set_by}
 use Rattle.lis_open.specs.Opens.{HasSuper}
@@ -186,7 +186,7 @@ pub record WordFails (limits : Limits) (at : ℕ → List ℕ) (n : ℕ) : Type 
 
 -- bit n of the bitmap, over all its blocks
 abbrev pub has_bitmap_bit : Limits → (ℕ → List ℕ) → ℕ → Bool
-has_bitmap_bit limits at n = has_bit (at (bitmap_start limits + n / BLOCK_BITS)) (n % BLOCK_BITS)
+has_bitmap_bit limits at n = has_bit (at (bitmap_home limits n)) (n % BLOCK_BITS)
 
 -- A bit of the bitmap is 1 and no file uses the block, or it is 0 and some file does.
 pub record BitFails (limits : Limits) (at : ℕ → List ℕ) (n : ℕ) : Type 0 where

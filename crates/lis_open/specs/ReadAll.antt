@@ -3,16 +3,16 @@ use Rattle.std.specs.Prelude.{◌≡◌, ◌≢◌, ℕ, ◌+◌, ◌*◌, ◌�
 use Rattle.lis_limits.specs.declared.TheConstants.{BLOCK_BITS}
 use Rattle.lis_bits.specs.Rows.{HasShape}
 use Rattle.lis_slots.specs.Slots.{slot}
-use Rattle.lis_blockmap.specs.Bitmap.{bitmap_bytes, is_taken}
+use Rattle.lis_blockmap.specs.Bitmap.{is_taken}
 use Rattle.lis_dict.specs.Dict.{word_of}
 use Rattle.lis_ext.specs.Ext.{Ext}
 use Rattle.lis_model.specs.declared.limits.Limits.{Limits}
 use Rattle.lis_model.specs.declared.spot.Spot.{Spot}
 use Rattle.lis_model.specs.declared.spot.Spot.TheVariants.{Word, Bitmap, Row}
-use Rattle.lis_model.specs.Image.{bitmap_start, bitmap_blocks, data_start}
+use Rattle.lis_model.specs.Image.{bitmap_blocks, data_start}
 use Rattle.lis_model.specs.State.{State}
 use Rattle.lis_kept.specs.Metadata.{Metadata, metadata_of}
-use Rattle.lis_kept.specs.Areas.{IsWritten, axiom_slots, row_slots}
+use Rattle.lis_kept.specs.Areas.{IsWritten, AreBitmapBlocks, axiom_slots, row_slots}
 use Rattle.lis_kept.specs.Rows.{row_bytes}
 use Rattle.lis_kept.specs.Telling.{Tells, is_used}
 use Rattle.lis_store.specs.Stored.{Stored}
@@ -83,10 +83,6 @@ BitmapDiffers limits at taken (Damaged spot) = (n : ℕ) × (spot ≡ Bitmap n) 
 BitmapDiffers limits at taken DiskFault = Unit {0}
 BitmapDiffers limits at taken NoMemory = ⊥
 BitmapDiffers limits at taken (TooShort len need) = ⊥
-
--- each block of the bitmap shows which data blocks are taken
-abbrev pub AreBitmapBlocks : Limits → (ℕ → List ℕ) → List Bool → Type 0
-AreBitmapBlocks limits at taken = (n : ℕ) → n < bitmap_blocks limits → at (bitmap_start limits + n) ≡ bitmap_bytes n taken
 
 abbrev pub BitmapChecked : {T : Type 0} → Limits → (ℕ → List ℕ) → List Bool → Result T OpenFault → Type 0
 BitmapChecked limits at taken (Ok done) = AreBitmapBlocks limits at taken

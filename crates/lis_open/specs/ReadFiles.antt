@@ -120,7 +120,7 @@ pub record HasBlocks (limits : Limits) (at : ℕ → List ℕ) (taken : List Boo
   pub free : IsTrue (are_free taken (blocks_told limits at rec))
   pub distinct : IsTrue (are_distinct (blocks_told limits at rec))
 
--- whether a record has usable blocks, and that they are these
+-- if true, the index blocks of a record are well formed, and these are its blocks; if false, it has no usable blocks
 abbrev pub AreItsBlocks : Limits → (ℕ → List ℕ) → List Bool → FileRecord → List ℕ → Bool → Type 0
 AreItsBlocks limits at taken rec blocks false = HasBlocks limits at taken rec → ⊥
 AreItsBlocks limits at taken rec blocks true = HasIndex limits at rec × (blocks ≡ blocks_told limits at rec)

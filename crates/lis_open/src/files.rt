@@ -233,6 +233,7 @@ fn file(slots: &mut FileSlots, slot: u32, rec: FileRec, blocks: &[u32], numbers:
 pub struct FileScratch {
     /// It finds the description of the file.
     pub search: Search,
+    /// Its bytes.
     pub bytes: Buffer,
     /// All blocks of the file.
     pub blocks: ArrayVec<u32, MOST_BLOCKS>,

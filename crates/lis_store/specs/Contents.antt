@@ -79,8 +79,8 @@ abbrev pub blocks_gone : Limits → (ℕ → List ℕ) → Option FileRecord →
 blocks_gone limits at None = []
 blocks_gone limits at (Some rec) = blocks_told limits at rec
 
--- The blocks of a file, if there is one, are freed and others taken. In version 1 they are freed first, and may be used again. In version 2
--- the others were free before.
+-- The blocks of a file, if there is one, are freed and others taken. In version 1 they are freed first, and may be used again. In
+-- versions 2 and 3 the others were free before.
 pub data Trades (limits : Limits) (gone : Option FileRecord) (taken now : List Bool) (blocks : List ℕ) (at there : ℕ → List ℕ) : Type 0 where
   First : IsTrue (are_free (given taken (blocks_gone limits at gone)) blocks) → now ≡ marked (given taken (blocks_gone limits at gone)) blocks
       → Trades limits gone taken now blocks at there

@@ -1,5 +1,5 @@
 -- When an image represents a state.
-use Rattle.std.specs.Prelude.{◌≡◌, ◌≢◌, ℕ, ◌+◌, ◌*◌, ◌/◌, ◌<◌, ◌≤◌, nat_lt, Bool, true, false, ◌&&◌, Option, Some, None, is_some, List, [], ◌∷◌, length, map, filter, drop, replicate, slice_get, slice_index_or, IsTrue}
+use Rattle.std.specs.Prelude.{◌≡◌, ◌≢◌, ℕ, ◌*◌, ◌/◌, ◌<◌, ◌≤◌, nat_lt, Bool, true, false, ◌&&◌, Option, Some, None, is_some, List, [], ◌∷◌, length, map, filter, drop, replicate, slice_get, slice_index_or, IsTrue}
 use Rattle.std.specs.Option.{option_to_list}
 use Rattle.std.specs.BTreeSet.{insert_key}
 use Rattle.std.specs.List.{fold, flat_map, list_all, range_with_len, Contains}
@@ -7,7 +7,6 @@ use Rattle.lis_limits.specs.declared.TheConstants.{BLOCK_LEN}
 use Rattle.lis_ports.specs.Bytes.{part}
 use Rattle.lis_journal.specs.Record.{block, replayed}
 use Rattle.lis_slots.specs.Slots.{Slots, slot}
-use Rattle.lis_blockmap.specs.Bitmap.{bitmap_bytes}
 use Rattle.lis_content.specs.Content.{marked}
 use Rattle.lis_bits.specs.Bytes.{bits_bytes}
 use Rattle.lis_fields.specs.Records.{FileRecord}
@@ -20,11 +19,11 @@ use Rattle.lis_fields.specs.declared.slots.FileSlot.TheVariants.{Free as FreeFil
 use Rattle.lis_fields.specs.Layouts.{SpellsSuper, prop_bytes, is_prop, axiom_bytes, is_axiom, file_bytes, is_file, set_bytes}
 use Rattle.lis_words.specs.Words.{has_word}
 use Rattle.lis_model.specs.declared.limits.Limits.{Limits}
-use Rattle.lis_model.specs.Image.{bitmap_start, bitmap_blocks, image_blocks}
+use Rattle.lis_model.specs.Image.{image_blocks}
 use Rattle.lis_model.specs.Ranges.{are_stored}
 use Rattle.lis_model.specs.Sets.{set_of, are_distinct}
 use Rattle.lis_model.specs.State.{State, File, pair_cmp, file_cmp, known, description, WellFormed}
-use Rattle.lis_kept.specs.Areas.{property_slots, axiom_slots, file_slots, row_slots, set_slots}
+use Rattle.lis_kept.specs.Areas.{AreBitmapBlocks, property_slots, axiom_slots, file_slots, row_slots, set_slots}
 use Rattle.lis_kept.specs.Telling.{pair_by, bytes_told, blocks_told, HasIndex}
 use Rattle.lis_kept.specs.Image.{image_layout}
 
@@ -145,8 +144,7 @@ pub record Spells (limits : Limits) (contents : Contents) (at : ℕ → List ℕ
   pub indexed : (rec : FileRecord) → Contains (all_records contents.files) rec → HasIndex limits at rec
   pub blocks : IsTrue (list_all (λ n. nat_lt n limits.blocks) (all_blocks limits at (all_records contents.files)))
   pub each_block_once : IsTrue (are_distinct (all_blocks limits at (all_records contents.files)))
-  pub bitmap : (n : ℕ) → n < bitmap_blocks limits
-      → at (bitmap_start limits + n) ≡ bitmap_bytes n (marked (replicate limits.blocks false) (all_blocks limits at (all_records contents.files)))
+  pub bitmap : AreBitmapBlocks limits at (marked (replicate limits.blocks false) (all_blocks limits at (all_records contents.files)))
   pub rows : limits.version ≢ 3 → (p : ℕ) → p < (row_slots limits).count → slot (row_slots limits) at p ≡ bits_bytes (limits.files / 8) (row_bit s limits contents at p)
   pub sets : limits.version ≡ 3 → (i : ℕ) → i < (set_slots limits).count → slot (set_slots limits) at i ≡ set_bytes (set_by s limits contents at i)
 

@@ -69,7 +69,7 @@ impl Memory {
     }
 
     // Puts bytes into blocks, instead of the bytes of the file in a slot, and returns the block numbers that the slot gets. In version 1
-    // the blocks of that file may be used again; in version 2 they stay until the command is done.
+    // the blocks of that file may be used again; in versions 2 and 3 they stay until the command is done.
     fn put_instead<D: Disk>(
         &mut self,
         disk: &mut D,
