@@ -1,5 +1,5 @@
--- The blocks of a file. If its content takes more than 16, index blocks have their numbers, 1,024 each, and the slot has only the numbers of
--- the index blocks.
+-- The blocks of a file. If its content takes more than 16, index blocks have their numbers, at most 1,024 each, and the slot has only the
+-- numbers of the index blocks.
 use Rattle.std.specs.Prelude.{◌-◌, ◌≡◌, ◌≢◌, ℕ, ◌+◌, ◌*◌, ◌/◌, ◌%◌, ◌<◌, min, nat_lt, Bool, true, if◌then◌else◌, List, ◌++◌, length, map, drop, replicate, slice_index}
 use Rattle.std.specs.List.{flat_map, range_with_len}
 use Rattle.lis_limits.specs.declared.TheConstants.{BLOCK_LEN, NUMBERS_PER_INDEX, SLOT_BLOCKS}
