@@ -1,6 +1,8 @@
 -- Blocks that are taken for a content, or freed.
-use Rattle.std.proofs.Common.{MatchResult, arith, nat_le, min}
-use Rattle.lis_kept.proofs.Common.{rules, ◌≡◌, refl, sym, ap, ◌∙◌, subst, ℕ, zero, suc, ◌<◌, ◌≤◌, nat_lt, not, Bool, true, false, List, [], ◌∷◌, length, drop, set, Result, Ok, Err, length-set, list_all, and_parts, ltb-true, lt-ltb, Held, are_distinct, slot_count, FileRecord, Taxonomy, bitmap_start, data_start, all_among, and_from, all_from, ◌==◌, ◌&&◌, ◌||◌, ◌/◌, ◌*◌, Limits, cond, ◌+◌}
+use Rattle.std.proofs.Common.{MatchResult, OnOk, OnErr, ap₂, arith, nat_le, min}
+use Rattle.lis_kept.proofs.Common.{rules, ◌≡◌, refl, sym, ap, ◌∙◌, subst, ℕ, zero, suc, ◌≤◌, nat_lt, not, Bool, true, false, List, [], ◌∷◌, length, map, drop, Result, Ok, Err, list_all, and_parts, ltb-true, lt-ltb, Held, are_distinct, slot_count, FileRecord, Taxonomy, Among, marked, length-marked, data_start, all_among, and_from, all_from, ◌==◌, ◌&&◌, ◌||◌, ◌/◌, ◌*◌, Limits, cond, ◌+◌, ◌⊎◌, inl, inr, IsTrue, are_stored}
+use Rattle.lis_model.specs.Ranges.{most_blocks}
+use Rattle.lis_model.proofs.Stored.{stored_parts}
 use Rattle.std.proofs.lemmas.Bool.{cond-true, cond-false, eq-eqb, ltb-false, leb-false, and_from}
 use Rattle.lis_ports.specs.Meaning.{Meaning}
 use Rattle.lis_ports.specs.Runs.{Leaves}
@@ -8,14 +10,14 @@ use Rattle.lis_ports.proofs.Moments.{leaves_none}
 use Rattle.lis_journal.specs.Record.{HomeBlock}
 use Rattle.lis_journal.specs.Images.{look, is_among, StandsBut, Fits}
 use Rattle.lis_journal.specs.Phases.{looked}
-use Rattle.lis_blockmap.specs.Bitmap.{free_count}
+use Rattle.lis_blockmap.specs.Bitmap.{free_count, is_taken}
 use Rattle.lis_content.specs.Content.{given, are_free, are_within}
 use Rattle.lis_content.specs.Large.{is_large, file_blocks}
-use Rattle.lis_content.specs.Placing.{HasFile, Places, IsPlaced, IsTornOff, IsUnplaced}
+use Rattle.lis_content.specs.Placing.{homes_of, HasFile, Places, IsPlaced, IsTornOff, IsUnplaced}
 use Rattle.lis_content.specs.Putting.{IsPut, IsRefused}
 use Rattle.lis_content.specs.declared.fault.PutFault.{PutFault}
 use Rattle.lis_content.specs.declared.fault.PutFault.TheVariants.{NoSpace, Disk}
-use Rattle.lis_content.proofs.Numbers.{are_below, below_from_free, within_if_below}
+use Rattle.lis_content.proofs.Numbers.{length-given, are_below, below_from_free, within_if_below}
 use Rattle.lis_content.proofs.Indexes.{small_blocks, small_content}
 use Rattle.lis_content.proofs.Files.{slot_were_free}
 use Rattle.lis_content.proofs.Laying.{among_homes}
@@ -23,32 +25,27 @@ use Rattle.lis_fields.specs.Layouts.{are_blocks, number_width, slot_blocks}
 use Rattle.lis_model.specs.Image.{image_blocks}
 use Rattle.lis_model.specs.State.{file_limit, blocks_needed, blocks_taken}
 use Rattle.lis_kept.specs.Metadata.{Metadata}
-use Rattle.lis_kept.specs.Areas.{Area, slots_of, block_of, spelled}
 use Rattle.lis_kept.specs.Sound.{is_sound_record}
 use Rattle.lis_kept.specs.Links.{AreHeld}
-use Rattle.lis_kept.specs.Changes.{Takes, GivesBack, Fills, Lands, Puts, PutTorn}
+use Rattle.lis_kept.specs.Changes.{bitmap_homes, Takes, GivesBack, Fills, Lands, Puts, PutTorn}
 use Rattle.lis_kept.proofs.InArea.{few_blocks, two_bytes}
 use Rattle.lis_kept.proofs.Formed.{held_files, record_parts}
-use Rattle.lis_kept.proofs.Marking.{block_marked}
+use Rattle.lis_kept.proofs.BitmapMarks.{is_home, bitmap_home_of, homes_are, homes_by, bitmap_marked, given_others, marked_others}
+use Rattle.lis_kept.specs.Telling.{blocks_told}
 use Rattle.lis_kept.proofs.Contents.{slot_blocks_counted}
 use Rattle.lis_model.specs.Sets.{has_number, fit}
 use Rattle.lis_journal.specs.Journal.{shape_of}
 
 -- ---- other blocks are taken, over what memory kept
-module _ (k p : Metadata) (t : Taxonomy) (taken marks : List Bool) (is : p ≡ k) (held : AreHeld p t) (len : length taken ≡ length p.taken) (marked_is : marks ≡ set p.marks (bitmap_start p.limits) true) where
-  abbrev retaken : Metadata
-  retaken = record p { taken = taken; marks = marks }
-
-  spelled_before : (area : Area) (n : ℕ) → n < (slots_of p.limits area).count → (block_of p.limits area n ≡ bitmap_start p.limits → ⊥) → spelled retaken area n ≡ spelled p area n
-  spelled_before area n lt apart = search (rules)
-
-  pub takes : AreHeld retaken t × Takes taken k retaken
+module _ (k p : Metadata) (t : Taxonomy) (blocks : List ℕ) (taken marks : List Bool) (is : p ≡ k) (held : AreHeld p t) (len : length taken ≡ length p.taken)
+    (others : (n : ℕ) → (Among blocks n → ⊥) → is_taken taken n ≡ is_taken p.taken n) (are_marks : marks ≡ marked p.marks (bitmap_homes p.limits blocks)) where
+  pub takes : AreHeld (record p { taken = taken; marks = marks }) t × Takes blocks taken k (record p { taken = taken; marks = marks })
   takes = (
-    held_files p t p.catalog taken p.ext marks held (assumption (ap length marked_is ∙ length-set p.marks (bitmap_start p.limits) true)),
-    subst (λ (x : Metadata). Takes taken x retaken) is (record {
-      metadata = cc (marked_is);
+    held_files p t p.catalog taken p.ext marks held (assumption (ap length are_marks ∙ length-marked p.marks (bitmap_homes p.limits blocks))),
+    subst (λ (x : Metadata). Takes blocks taken x (record p { taken = taken; marks = marks })) is (record {
+      metadata = cc (are_marks);
       len = len;
-      marks = block_marked p retaken (bitmap_start p.limits) refl marked_is (omega (arith, held.sound.marks)) spelled_before;
+      marks = bitmap_marked p held.sound blocks taken marks len others are_marks;
     }),
   )
 
@@ -79,7 +76,7 @@ placed_fills : (p : Metadata) (taken : List Bool) (old : Held) (before after : M
 placed_fills p taken old before after blocks places = assumption
 
 module _ (p : Metadata) (t : Taxonomy) (held : AreHeld p t) (bytes numbers : List ℕ) (taken : List Bool) (old new : Held) (before after : Meaning) (few : length bytes ≤ file_limit p.limits)
-    (unstaged : old.staged ≡ []) (large : is_large (length bytes) ≡ true) (placed : IsPlaced (data_start p.limits) bytes p.taken taken old new before after numbers) where
+    (unstaged : old.staged ≡ []) (large : is_large (length bytes) ≡ true) (placed : IsPlaced p.limits.version (data_start p.limits) bytes p.taken taken old new before after numbers) where
   slot_apart : are_distinct numbers ≡ true
   slot_apart = search (rules, cond-true, distinct_behind)
 
@@ -89,7 +86,7 @@ module _ (p : Metadata) (t : Taxonomy) (held : AreHeld p t) (bytes numbers : Lis
   abbrev placed_lands : (kept : ℕ → List ℕ) → Fits old before kept → Lands p.limits bytes numbers placed.blocks (looked old.staged kept) new after
   placed_lands kept fits =
       let end = placed.lays.fits kept fits in
-      let H : List HomeBlock → Type 0 = λ es. HasFile (data_start p.limits) bytes numbers placed.blocks (looked es end.0) in
+      let H : List HomeBlock → Type 0 = λ es. HasFile p.limits.version (data_start p.limits) bytes numbers placed.blocks (looked es end.0) in
       record {
         kept = end.0;
         fits = end.1;
@@ -97,11 +94,11 @@ module _ (p : Metadata) (t : Taxonomy) (held : AreHeld p t) (bytes numbers : Lis
         holds = subst H (sym (staged_same ∙ unstaged)) end.3;
       }
 
-  placed_puts : (q : Metadata) → Takes taken p q → Puts bytes numbers p q old new before after
+  placed_puts : (q : Metadata) → Takes placed.blocks taken p q → Puts bytes numbers p q old new before after
   placed_puts q takes = record {
     blocks = placed.blocks;
     fills = placed_fills p taken old before after placed.blocks placed.lays.places;
-    takes = subst (λ (ts : List Bool). Takes ts p q) placed.lays.places.marks takes;
+    takes = subst (λ (ts : List Bool). Takes placed.blocks ts p q) placed.lays.places.marks takes;
     in_form = free_in_form p t held numbers free (length bytes) few placed.slot_len slot_apart;
     below = free_below p t held numbers free;
     image = ap shape_of placed.lays.journal;
@@ -118,7 +115,41 @@ module _ (p : Metadata) (t : Taxonomy) (held : AreHeld p t) (bytes numbers : Lis
   }
     where
       free : are_free p.taken numbers ≡ true
-      free = slot_were_free (data_start p.limits) bytes p.taken taken old new numbers placed
+      free = slot_were_free p.limits.version (data_start p.limits) bytes p.taken taken old new numbers placed
+
+-- the homes of what is placed, and the marks of the blocks of the bitmap with its bits
+module _ (limits : Limits) (bytes slot : List ℕ) (taken now_taken : List Bool) (old new : Held) (before after : Meaning) (placed : IsPlaced limits.version (data_start limits) bytes taken now_taken old new before after slot)
+    (len : length taken ≡ limits.blocks) (homes : List ℕ) (is : homes ≡ new.placed) where
+  placed_at : homes ≡ homes_of (data_start limits) placed.blocks
+  placed_at = is ∙ ap (λ (h : Held). h.placed) placed.lays.journal
+
+  placed_below : list_all (λ n. nat_lt n limits.blocks) placed.blocks ≡ true
+  placed_below = ap (λ m. are_below m placed.blocks) (sym len) ∙ below_from_free taken placed.blocks placed.lays.places.were_free
+
+  pub placed_homes : list_all (is_home limits) homes ≡ true
+  placed_homes = ap (list_all (is_home limits)) placed_at ∙ homes_are limits placed.blocks placed_below
+
+  pub placed_marks : (marks : List Bool) → marked marks (map (bitmap_home_of limits) homes) ≡ marked marks (bitmap_homes limits placed.blocks)
+  placed_marks marks = ap (marked marks) (ap (map (bitmap_home_of limits)) placed_at ∙ homes_by limits placed.blocks placed_below)
+
+-- what a placing takes
+pub few_taken : (size : ℕ) → size ≤ 1048576 → blocks_taken 2 size ≤ 257
+few_taken size few = by (nat_le n 16)
+  where
+    n : ℕ
+    n = blocks_needed size
+
+    by : (small : Bool) → n + cond small 0 ((n + 1023) / 1024) ≤ 257
+    by true = omega (arith, few)
+    by false = omega (arith, few)
+
+-- each block has a number of the version
+pub few_numbers : (limits : Limits) → IsTrue (are_stored limits) → limits.blocks ≤ most_blocks limits.version
+few_numbers limits range = of_version (stored_parts limits range).version
+  where
+    of_version : (limits.version ≡ 1) ⊎ (limits.version ≡ 2) → limits.blocks ≤ most_blocks limits.version
+    of_version (inl one) = subst (λ v. limits.blocks ≤ most_blocks v) (sym one) (few_blocks limits range)
+    of_version (inr two) = subst (λ v. limits.blocks ≤ most_blocks v) (sym two) (few_blocks limits range)
 
 -- ---- a content that is staged
 module _ (p : Metadata) (t : Taxonomy) (held : AreHeld p t) (bytes numbers : List ℕ) (taken : List Bool) (old new : Held) (m : Meaning) (few : length bytes ≤ file_limit p.limits)
@@ -127,7 +158,7 @@ module _ (p : Metadata) (t : Taxonomy) (held : AreHeld p t) (bytes numbers : Lis
   not_large large = let e : true ≡ false = sym large ∙ small in cc
 
   counted : length numbers ≡ slot_count (length bytes)
-  counted = put.count ∙ sym (cond-false (is_large (length bytes)) 1 (blocks_needed (length bytes)) small)
+  counted = put.count ∙ sym (cond-false (is_large (length bytes)) ((blocks_needed (length bytes) + 1023) / 1024) (blocks_needed (length bytes)) small)
 
   staged_fits : (kept : ℕ → List ℕ) → Fits old m kept → Fits new m kept
   staged_fits kept fits = search (rules)
@@ -138,13 +169,13 @@ module _ (p : Metadata) (t : Taxonomy) (held : AreHeld p t) (bytes numbers : Lis
     fits = staged_fits kept fits;
     same = λ n none. put.others n (kept n) none;
     holds = record {
-      reads = small_content (data_start p.limits) numbers (length bytes) (looked new.staged kept) small ∙ put.holds kept;
+      reads = small_content p.limits.version (data_start p.limits) numbers (length bytes) (looked new.staged kept) small ∙ put.holds kept;
       index = λ large. absurd (not_large large);
-      all = small_blocks (data_start p.limits) numbers (length bytes) (looked new.staged kept) small;
+      all = small_blocks p.limits.version (data_start p.limits) numbers (length bytes) (looked new.staged kept) small;
     };
   }
 
-  staged_puts : (q : Metadata) → Takes taken p q → Puts bytes numbers p q old new m m
+  staged_puts : (q : Metadata) → Takes numbers taken p q → Puts bytes numbers p q old new m m
   staged_puts q takes = record {
     blocks = numbers;
     fills = record {
@@ -153,7 +184,7 @@ module _ (p : Metadata) (t : Taxonomy) (held : AreHeld p t) (bytes numbers : Lis
       moments = λ kept fits. leaves_none m _;
       past = λ kept fits n le. refl;
     };
-    takes = subst (λ (ts : List Bool). Takes ts p q) put.marks takes;
+    takes = subst (λ (ts : List Bool). Takes numbers ts p q) put.marks takes;
     in_form = free_in_form p t held numbers put.were_free (length bytes) few counted put.distinct;
     below = free_below p t held numbers put.were_free;
     image = put.image;
@@ -196,19 +227,18 @@ pub record MayPut (k : Metadata) (bytes : List ℕ) (old : Held) : Type 0 where
   pub unplaced : old.placed ≡ []
   pub unstaged : is_large (length bytes) ≡ true → old.staged ≡ []
 
-module _ {T : Type 0} (items : T → List ℕ) (k p : Metadata) (t : Taxonomy) (is : p ≡ k) (held : AreHeld p t) (bytes : List ℕ) (old new : Held) (asked : MayPut k bytes old) (taken marks : List Bool)
-    (are_marks : marks ≡ set p.marks (bitmap_start p.limits) true) where
+module _ {T : Type 0} (items : T → List ℕ) (k p : Metadata) (t : Taxonomy) (is : p ≡ k) (held : AreHeld p t) (bytes : List ℕ) (old new : Held) (asked : MayPut k bytes old) (taken marks : List Bool) where
   abbrev after_put : Metadata
   after_put = record p { taken = taken; marks = marks }
 
   may : MayPut p bytes old
   may = subst (λ (q : Metadata). MayPut q bytes old) (sym is) asked
 
-  held_put : length taken ≡ length p.taken → AreHeld after_put t
-  held_put len = (takes p p t taken marks refl held len are_marks).0
-
-  takes_put : length taken ≡ length p.taken → Takes taken p after_put
-  takes_put len = (takes p p t taken marks refl held len are_marks).1
+  -- these blocks are taken
+  marks_put : (blocks : List ℕ) → taken ≡ marked p.taken blocks → marks ≡ marked p.marks (bitmap_homes p.limits blocks) → AreHeld after_put t × Takes blocks taken p after_put
+  marks_put blocks are_taken are_marks =
+      takes p p t blocks taken marks refl held (ap length are_taken ∙ length-marked p.taken blocks)
+      (λ n apart. ap (λ ts. is_taken ts n) are_taken ∙ marked_others p.taken blocks n apart) are_marks
 
   needed_enough : blocks_taken 2 (length bytes) ≤ free_count p.taken
   needed_enough = subst (λ n. n ≤ free_count p.taken) (taken_counted p.limits (length bytes) may.short) may.enough
@@ -224,33 +254,42 @@ module _ {T : Type 0} (items : T → List ℕ) (k p : Metadata) (t : Taxonomy) (
           image = ap shape_of torn.journal;
         })
 
+    -- some blocks are taken, and no marks are made
+    held_torn : length taken ≡ length p.taken → marks ≡ p.marks → AreHeld after_put t
+    held_torn len same = held_files p t p.catalog taken p.ext marks held (assumption (ap length same))
+
     pub placed_ends : (put : Result T PutFault)
-        → MatchResult put (λ s. IsPlaced (data_start p.limits) bytes p.taken taken old new before after (items s)) (λ fault. IsUnplaced (data_start p.limits) bytes p.taken taken old new before after fault)
+        → MatchResult put
+        (λ s. (placed : IsPlaced p.limits.version (data_start p.limits) bytes p.taken taken old new before after (items s)) × (marks ≡ marked p.marks (bitmap_homes p.limits placed.blocks)))
+        (λ fault. IsUnplaced (data_start p.limits) bytes p.taken taken old new before after fault × (marks ≡ p.marks))
         → PutEnds items bytes k after_put t old new before after put
-    placed_ends (Ok s) placed =
+    placed_ends (Ok s) (placed, are_marks) =
         let P : Metadata → Type 0 = λ q. Puts bytes (items s) q after_put old new before after in
+        let done = marks_put placed.blocks placed.lays.places.marks are_marks in
         record {
-          held = held_put placed.lays.places.len;
-          ended = subst P is (placed_puts p t held bytes (items s) taken old new before after may.short (may.unstaged large) large placed after_put (takes_put placed.lays.places.len));
+          held = done.0;
+          ended = subst P is (placed_puts p t held bytes (items s) taken old new before after may.short (may.unstaged large) large placed after_put done.1);
         }
-    placed_ends (Err NoSpace) refused = absurd (omega (arith, refused.2, needed_enough))
-    placed_ends (Err Disk) torn = record { held = held_put torn.1.places.len; ended = torn_off torn.1 }
+    placed_ends (Err NoSpace) refused = absurd (omega (arith, refused.0.2, needed_enough))
+    placed_ends (Err Disk) torn = record { held = held_torn torn.0.1.places.len torn.1; ended = torn_off torn.0.1 }
 
   module _ (m : Meaning) (small : is_large (length bytes) ≡ false) where
     content_enough : blocks_needed (length bytes) ≤ free_count p.taken
     content_enough = omega (arith, needed_enough)
 
     pub staged_ends : (put : Result T PutFault)
-        → MatchResult put (λ s. IsPut (data_start p.limits) [] bytes p.taken taken old new (items s)) (λ fault. IsRefused [] bytes p.taken taken old new fault)
+        → MatchResult put (λ s. IsPut (data_start p.limits) [] bytes p.taken taken old new (items s) × (marks ≡ marked p.marks (bitmap_homes p.limits (items s))))
+        (λ fault. IsRefused [] bytes p.taken taken old new fault × (marks ≡ p.marks))
         → PutEnds items bytes k after_put t old new m m put
-    staged_ends (Ok s) is_put =
+    staged_ends (Ok s) (is_put, are_marks) =
         let P : Metadata → Type 0 = λ q. Puts bytes (items s) q after_put old new m m in
+        let done = marks_put (items s) is_put.marks are_marks in
         record {
-          held = held_put is_put.len;
-          ended = subst P is (staged_puts p t held bytes (items s) taken old new m may.short small may.unplaced is_put after_put (takes_put is_put.len));
+          held = done.0;
+          ended = subst P is (staged_puts p t held bytes (items s) taken old new m may.short small may.unplaced is_put after_put done.1);
         }
-    staged_ends (Err NoSpace) refused = absurd (omega (arith, refused.2, content_enough))
-    staged_ends (Err Disk) never = absurd never
+    staged_ends (Err NoSpace) refused = absurd (omega (arith, refused.0.2, content_enough))
+    staged_ends (Err Disk) never = absurd never.0
 
 -- what is stated of a result, stated of its value
 pub ended_ok : {T : Type 0} (P : T → Type 0) (Q : PutFault → Type 0) (put : Result T PutFault) (x : T) → put ≡ Ok x → MatchResult put P Q → P x
@@ -265,19 +304,61 @@ pub slot_within : (k : Metadata) (rec : FileRecord) (base blocks : ℕ) (numbers
     → blocks ≡ image_blocks k.limits → numbers ≡ rec.blocks → are_within base blocks numbers ≡ true
 slot_within k rec base blocks numbers sound from image are = search (rules, within_if_below, are_below, record_parts)
 
-pub gives : (k p : Metadata) (t : Taxonomy) (rec : FileRecord) (journal : Held) (m : Meaning) (base size : ℕ) (numbers : List ℕ) (taken marks : List Bool) → p ≡ k → AreHeld p t → length taken ≡ length p.taken
-    → marks ≡ set p.marks (bitmap_start p.limits) true → base ≡ data_start p.limits → numbers ≡ rec.blocks → size ≡ rec.size
-    → ((kept : ℕ → List ℕ) → Fits journal m kept → taken ≡ given p.taken (file_blocks base numbers size (looked journal.staged kept)))
-    → (is_large size ≡ false → taken ≡ given p.taken numbers)
+freed_takes : (p : Metadata) (t : Taxonomy) (numbers : List ℕ) (taken marks : List Bool) → AreHeld p t → taken ≡ given p.taken numbers → marks ≡ marked p.marks (bitmap_homes p.limits numbers)
+    → AreHeld (record p { taken = taken; marks = marks }) t × Takes numbers taken p (record p { taken = taken; marks = marks })
+freed_takes p t numbers taken marks held are_taken are_marks =
+    takes p p t numbers taken marks refl held (ap length are_taken ∙ length-given p.taken numbers)
+    (λ n apart. ap (λ ts. is_taken ts n) are_taken ∙ given_others p.taken numbers n apart) are_marks
+
+-- memory is still as it must be
+pub given_held : (p : Metadata) (t : Taxonomy) (numbers : List ℕ) (taken marks : List Bool) → AreHeld p t → taken ≡ given p.taken numbers → marks ≡ marked p.marks (bitmap_homes p.limits numbers)
+    → AreHeld (record p { taken = taken; marks = marks }) t
+given_held p t numbers taken marks held are_taken are_marks = (freed_takes p t numbers taken marks held are_taken are_marks).0
+
+-- all blocks of a file are freed
+pub gives : (k p : Metadata) (t : Taxonomy) (rec : FileRecord) (journal : Held) (m : Meaning) (blocks : List ℕ) (taken marks : List Bool) → p ≡ k → AreHeld p t
+    → taken ≡ given p.taken blocks → marks ≡ marked p.marks (bitmap_homes p.limits blocks) → (is_large rec.size ≡ false → blocks ≡ rec.blocks)
+    → ((kept : ℕ → List ℕ) → Fits journal m kept → blocks ≡ blocks_told p.limits (looked journal.staged kept) rec)
     → GivesBack rec k (record p { taken = taken; marks = marks }) journal m
-gives k p t rec journal m base size numbers taken marks is held len are_marks from are sized given_back small_back =
-    let P : Metadata → Type 0 = λ q. GivesBack rec q (record p { taken = taken; marks = marks }) journal m in
-    subst P is (record {
-      takes = (takes p p t taken marks refl held len are_marks).1;
-      small = λ small. small_back (ap is_large sized ∙ small) ∙ ap (given p.taken) are;
-      given = λ kept fits.
-          given_back kept fits
-          ∙ (ap (λ b. given p.taken (file_blocks b numbers size (looked journal.staged kept))) from
-          ∙ (ap (λ ns. given p.taken (file_blocks (data_start p.limits) ns size (looked journal.staged kept))) are
-          ∙ ap (λ n. given p.taken (file_blocks (data_start p.limits) rec.blocks n (looked journal.staged kept))) sized));
+gives k p t rec journal m blocks taken marks is held are_taken are_marks small told =
+    let Q : Metadata → Type 0 = λ q. GivesBack rec q (record p { taken = taken; marks = marks }) journal m in
+    subst Q is (record {
+      blocks = blocks;
+      takes = subst (λ (ts : List Bool). Takes blocks ts p (record p { taken = taken; marks = marks })) are_taken (freed_takes p t blocks taken marks held are_taken are_marks).1;
+      small = small;
+      told = told;
     })
+
+-- what is stated of a value, by what is stated of it before
+pub on_ok : {T E A B : Type 0} (r : Result T E) → (A → B) → OnOk r A → OnOk r B
+on_ok (Ok x) f a = f a
+on_ok (Err e) f a = a
+
+-- of a file with index blocks, by what their reading says
+module _ (k p : Metadata) (t : Taxonomy) (is : p ≡ k) (held : AreHeld p t) (journal : Held) (m : Meaning) (version base size : ℕ) (numbers : List ℕ) (taken marks : List Bool) where
+  abbrev pub Freed : Type 0
+  Freed = (blocks : List ℕ) × (taken ≡ given p.taken blocks) × (marks ≡ marked p.marks (bitmap_homes p.limits blocks))
+      × ((kept : ℕ → List ℕ) → Fits journal m kept → blocks ≡ file_blocks version base numbers size (looked journal.staged kept))
+
+  pub freed_held : {T E : Type 0} (r : Result T E) → OnOk r Freed → OnErr r ((taken ≡ p.taken) × (marks ≡ p.marks)) → AreHeld (record p { taken = taken; marks = marks }) t
+  freed_held (Ok x) (blocks, are_taken, are_marks, told) stays =
+      given_held p t blocks taken marks held are_taken are_marks
+  freed_held (Err e) freed stays = held_files p t p.catalog taken p.ext marks held (assumption (ap length stays.0, ap length stays.1))
+
+  pub freed_gives : (rec : FileRecord) → version ≡ p.limits.version → base ≡ data_start p.limits → numbers ≡ rec.blocks → size ≡ rec.size → is_large size ≡ true
+      → Freed → GivesBack rec k (record p { taken = taken; marks = marks }) journal m
+  freed_gives rec v b n s large (blocks, are_taken, are_marks, told) =
+      gives k p t rec journal m blocks taken marks is held are_taken are_marks
+      (λ small. absurd (let e : true ≡ false = sym large ∙ (ap is_large s ∙ small) in cc))
+      (λ kept fits.
+      told kept fits
+      ∙ (ap₂ (λ v b. file_blocks v b numbers size (looked journal.staged kept)) v b
+      ∙ ap₂ (λ ns n. file_blocks p.limits.version (data_start p.limits) ns n (looked journal.staged kept)) n s))
+
+-- of a file without
+pub small_gives : (k p : Metadata) (t : Taxonomy) (rec : FileRecord) (journal : Held) (m : Meaning) (numbers : List ℕ) (taken marks : List Bool) → p ≡ k → AreHeld p t → numbers ≡ rec.blocks
+    → is_large rec.size ≡ false → taken ≡ given p.taken numbers → marks ≡ marked p.marks (bitmap_homes p.limits numbers)
+    → GivesBack rec k (record p { taken = taken; marks = marks }) journal m
+small_gives k p t rec journal m numbers taken marks is held are small are_taken are_marks =
+    gives k p t rec journal m numbers taken marks is held are_taken are_marks (λ _. are)
+    (λ kept fits. are ∙ sym (small_blocks p.limits.version (data_start p.limits) rec.blocks rec.size (looked journal.staged kept) small))

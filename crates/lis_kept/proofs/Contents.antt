@@ -24,14 +24,14 @@ slot_blocks_counted limits size range few = of_version (stored_parts limits rang
     within v = size ≤ cond (v == 1) 65536 (cond (v == 2) 1048576 (min 67108864 (4096 * limits.blocks)))
 
     first : size ≤ 65536 → slot_blocks 1 size ≡ slot_count size
-    first le = sym (cond-false (is_large size) 1 n (small_size size le))
+    first le = sym (cond-false (is_large size) ((n + 1023) / 1024) n (small_size size le))
 
     second : (small large : Bool) → nat_le n 16 ≡ small → nat_lt 16 n ≡ large → size ≤ 1048576
-        → cond (cond small 0 ((n + 1023) / 1024) == 0) n (cond small 0 ((n + 1023) / 1024)) ≡ cond large 1 n
+        → cond (cond small 0 ((n + 1023) / 1024) == 0) n (cond small 0 ((n + 1023) / 1024)) ≡ cond large ((n + 1023) / 1024) n
     second true true e f le = absurd (omega (arith, leb-true n 16 e, ltb-true 16 n f))
     second true false e f le = refl
     second false true e f le =
-        let one : (n + 1023) / 1024 ≡ 1 = omega (arith, le, ltb-true 16 n f) in subst (λ k. cond (k == 0) n k ≡ 1) (sym one) refl
+        let one : (n + 1023) / 1024 ≡ 1 = omega (arith, le, ltb-true 16 n f) in subst (λ k. cond (k == 0) n k ≡ k) (sym one) refl
     second false false e f le = absurd (omega (arith, leb-false n 16 e, ltb-false 16 n f))
 
     of_version : (limits.version ≡ 1) ⊎ (limits.version ≡ 2) → slot_blocks limits.version size ≡ slot_count size
@@ -46,12 +46,12 @@ slot_counted limits dict blocks rec range sound =
     few_blocks limits.version rec.size rec.blocks form.blocks ∙ slot_blocks_counted limits rec.size range form.small
 
 -- ---- a file when other blocks change
--- A file stays if its blocks hold the same. Its index block is among them.
+-- A file stays if its blocks hold the same. Its index blocks are among them.
 pub same_file : (limits : Limits) (rec : FileRecord) (at there : ℕ → List ℕ) → length rec.blocks ≡ slot_count rec.size
     → ((b : ℕ) → Among (blocks_told limits at rec) b → there (data_start limits + b) ≡ at (data_start limits + b))
     → (bytes_told limits there rec ≡ bytes_told limits at rec) × (blocks_told limits there rec ≡ blocks_told limits at rec) × (HasIndex limits at rec → HasIndex limits there rec)
 same_file limits rec at there counted same =
-    let file = same_in_content (data_start limits) rec.blocks rec.size at there counted at_homes in
+    let file = same_in_content limits.version (data_start limits) rec.blocks rec.size at there counted at_homes in
     (file.reads, file.blocks, file.index)
   where
     at_homes : AreSame (data_start limits) (blocks_told limits at rec) at there

@@ -4,8 +4,8 @@ use Rattle.lis_kept.proofs.Common.{rules, ◌≡◌, ℕ, ◌+◌, ◌*◌, ◌-
 use Rattle.std.proofs.Math.Nat.{div-lt_iff_lt-mul, div-add-mod}
 use Rattle.lis_model.specs.Ranges.{is_files_limit, is_props_limit}
 use Rattle.lis_fields.specs.Layouts.{number_width}
-use Rattle.lis_model.specs.Image.{axioms_start, files_start, rows_start}
-use Rattle.lis_model.proofs.Stored.{stored_parts, few_limits, files_whole, props_whole, props_some, each_files_limit}
+use Rattle.lis_model.specs.Image.{properties_start, axioms_start, files_start, descriptions_start}
+use Rattle.lis_model.proofs.Stored.{stored_parts, stored_records, stored_descriptions, fewer_descriptions, few_limits, files_whole, props_whole, props_some, each_files_limit}
 use Rattle.lis_kept.specs.Metadata.{Metadata}
 use Rattle.lis_kept.specs.Areas.{Area, slots_of, block_of, spelled, held_in, row_slots}
 use Rattle.lis_kept.specs.Areas.Area.{Properties, Axioms, Files, Rows, Bitmap}
@@ -52,6 +52,10 @@ first_limit limits one = ap (λ v. cond (v == 1) 65536 (cond (v == 2) 1048576 (m
 pub some_rows : (limits : Limits) → IsTrue (are_stored limits) → 0 < 4096 / (limits.files / 8)
 some_rows limits range = search (rules, each_files_limit, files_range)
 
+-- they fill a block
+pub rows_fill : (limits : Limits) → IsTrue (are_stored limits) → limits.files / 8 * (4096 / (limits.files / 8)) ≡ 4096
+rows_fill limits range = search (rules, each_files_limit, files_range)
+
 -- each number below the limit has a row
 pub rows_counted : (limits : Limits) → IsTrue (are_stored limits) → limits.props ≤ (row_slots limits).count
 rows_counted limits range = search (rules, each_files_limit, files_range)
@@ -78,19 +82,25 @@ rows_few limits n range =
 abbrev pub end_of : Limits → Area → ℕ
 end_of limits Properties = axioms_start limits
 end_of limits Axioms = files_start limits
-end_of limits Files = rows_start limits
+end_of limits Files = descriptions_start limits
 end_of limits Rows = bitmap_start limits
 end_of limits Bitmap = data_start limits
 
 -- a slot's block is in its area
 pub in_area : (limits : Limits) → IsTrue (are_stored limits) → (area : Area) (m : ℕ) → m < (slots_of limits area).count
     → ((slots_of limits area).first ≤ block_of limits area m) × (block_of limits area m < end_of limits area)
-in_area limits range area m lt = search (rules, whole_properties, whole_files, row_within)
+in_area limits range area m lt = search (rules, whole_properties, whole_files, row_within, stored_descriptions)
 
 -- all areas are before the data blocks and after the records
 pub among_slots : (limits : Limits) → IsTrue (are_stored limits) → (area : Area) (m : ℕ) → m < (slots_of limits area).count
-    → (578 ≤ block_of limits area m) × (block_of limits area m < data_start limits)
+    → (properties_start limits ≤ block_of limits area m) × (block_of limits area m < data_start limits)
 among_slots limits range area m lt = search (rules, in_area)
+
+-- few blocks are before the data blocks
+pub few_ahead : (limits : Limits) → IsTrue (are_stored limits) → data_start limits ≤ 2003
+few_ahead limits range =
+    let few = few_limits limits range in
+    omega (arith, few.files, few.props, few.blocks, stored_records limits range, fewer_descriptions limits range)
 
 -- no block is in two areas
 same_area : (limits : Limits) (n : ℕ) (a b : Area) → (slots_of limits a).first ≤ n → n < end_of limits a → (slots_of limits b).first ≤ n → n < end_of limits b → a ≡ b

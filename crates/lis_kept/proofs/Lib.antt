@@ -3,6 +3,7 @@ pub mod AxiomTaken
 pub mod AxiomsApart
 pub mod AxiomsChanged
 pub mod AxiomsTold
+pub mod BitmapMarks
 pub mod BlocksTaken
 pub mod Common
 pub mod Contents

@@ -15,7 +15,7 @@ use Rattle.lis_ext.proofs.Numbers.{where_among}
 use Rattle.lis_kept.specs.Sound.{AreSound}
 use Rattle.lis_kept.proofs.Spelled.{row_bytes_same}
 
-abbrev true_in : List Bool → ℕ
+abbrev pub true_in : List Bool → ℕ
 true_in bits = count_by (λ (b : Bool). b) bits
 
 true_set : (bits : List Bool) (n : ℕ) → n < length bits → true_in (set bits n true) ≤ true_in bits + 1
@@ -79,7 +79,7 @@ pub marked_only : (homes : List ℕ) (bits : List Bool) (n : ℕ) → is_taken (
 marked_only [] bits n is = inl is
 marked_only (h ∷ homes) bits n is = grind (arith, common_steps, get_or-set_other, marked_only homes (set bits h true) n is)
 
-one_at_most : (b : Bool) → cond b 1 0 ≤ 1
+pub one_at_most : (b : Bool) → cond b 1 0 ≤ 1
 one_at_most b = search (rules)
 
 unset : (bits : List Bool) (m : ℕ) → is_taken (set bits m false) m ≡ false

@@ -14,6 +14,7 @@ use Rattle.lis_kept.specs.Staging.{Stages}
 use Rattle.lis_kept.specs.Inside.{bytes_in, IsBlock, StagesBlock, StagedBelow}
 use Rattle.lis_kept.proofs.InArea.{held_by, among_slots}
 use Rattle.lis_journal.specs.Journal.{shape_of}
+use Rattle.lis_model.specs.Image.{properties_start}
 
 pub stages_block : (k : Metadata) (n : ℕ) (old new : Held) (block : List ℕ) → new ≡ record old { staged = with_entry old.staged n block }
     → ((m : ℕ) (was : List ℕ) → look new.staged m was ≡ cond (m == n) block (look old.staged m was)) → IsBlock k n block → StagesBlock k n old new
@@ -35,10 +36,10 @@ staged_some [] n bytes here = absurd (let e : ◌≡◌ {A = List ℕ} [] (0 ∷
 staged_some (e ∷ es) n bytes here = omega arith
 
 -- nothing yet
-pub staged_none : (k : Metadata) (old : Held) → IsTrue (are_stored k.limits) → StagedBelow k 578 old old
+pub staged_none : (k : Metadata) (old : Held) → IsTrue (are_stored k.limits) → StagedBelow k (properties_start k.limits) old old
 staged_none k old range = search (rules, among_slots)
 
-module _ (k : Metadata) (n : ℕ) (old now : Held) (within : n < length k.marks) (from : 578 ≤ n) (so_far : StagedBelow k n old now) where
+module _ (k : Metadata) (n : ℕ) (old now : Held) (within : n < length k.marks) (from : properties_start k.limits ≤ n) (so_far : StagedBelow k n old now) where
   -- a block that is not marked
   pub staged_past : is_marked k n ≡ false → StagedBelow k (n + 1) old now
   staged_past unmarked = search (rules, count_by_more_no, cases_lt)
@@ -73,7 +74,7 @@ module _ (k : Metadata) (n : ℕ) (old now : Held) (within : n < length k.marks)
           closer (inl below) = inl (omega (arith, below, differ))
           closer (inr free) = inr free
 
-      apart : (other : ℕ) (was : List ℕ) → (other < 578) ⊎ (n + 1 ≤ other) → look new.staged other was ≡ look old.staged other was
+      apart : (other : ℕ) (was : List ℕ) → (other < properties_start k.limits) ⊎ (n + 1 ≤ other) → look new.staged other was ≡ look old.staged other was
       apart other was (inl before) = one.others other was (λ e. omega (arith, e, before, from)) ∙ so_far.others other was (inl before)
       apart other was (inr behind) = one.others other was (λ e. omega (arith, e, behind)) ∙ so_far.others other was (inr (omega arith))
 

@@ -43,6 +43,7 @@ fn mark_rows(ext: &Ext, limits: &Limits, marks: &mut Flags)
 }
 
 // Marks the block of a file slot.
+#[tactic(auto, using(lis_model::proofs::Stored::stored_records, lis_model::proofs::Stored::few_limits))]
 fn mark_file(marks: &mut Flags, limits: &Limits, slot: u32)
     requires range { IsTrue (are_stored limits.now) }
     requires slot { slot < limits.now.files }

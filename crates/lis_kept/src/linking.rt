@@ -18,6 +18,7 @@ use lis_limits::{AXIOMS_PER_BLOCK, MAX_PROPS};
 use lis_model::limits::Limits;
 
 // Marks the block of an axiom slot.
+#[tactic(auto, using(lis_model::proofs::Stored::stored_records, lis_model::proofs::Stored::few_limits))]
 fn mark_axiom(marks: &mut Flags, limits: &Limits, slot: usize)
     requires range { IsTrue (are_stored limits.now) }
     requires slot { slot < limits.now.props }

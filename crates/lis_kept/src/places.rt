@@ -61,6 +61,7 @@ pub fn image_capacity(limits: &Limits) -> Capacity
 }
 
 /// The first block of property slots.
+#[tactic(auto, using(lis_model::proofs::Stored::stored_records))]
 pub fn properties_start(limits: &Limits) -> u32
     requires { IsTrue (are_stored limits.now) }
     ensures { result ≡ properties_start limits.now }
@@ -69,6 +70,7 @@ pub fn properties_start(limits: &Limits) -> u32
 }
 
 /// The first block of axiom slots.
+#[tactic(auto, using(lis_model::proofs::Stored::stored_records, lis_model::proofs::Stored::few_limits))]
 pub fn axioms_start(limits: &Limits) -> u32
     requires { IsTrue (are_stored limits.now) }
     ensures { result ≡ axioms_start limits.now }
@@ -77,6 +79,7 @@ pub fn axioms_start(limits: &Limits) -> u32
 }
 
 /// The first block of file slots.
+#[tactic(auto, using(lis_model::proofs::Stored::stored_records, lis_model::proofs::Stored::few_limits))]
 pub fn files_start(limits: &Limits) -> u32
     requires { IsTrue (are_stored limits.now) }
     ensures { result ≡ files_start limits.now }
@@ -85,6 +88,7 @@ pub fn files_start(limits: &Limits) -> u32
 }
 
 /// The first block that says which words each file has.
+#[tactic(auto, using(lis_model::proofs::Stored::stored_records, lis_model::proofs::Stored::few_limits))]
 pub fn descriptions_start(limits: &Limits) -> u32
     requires { IsTrue (are_stored limits.now) }
     ensures { result ≡ descriptions_start limits.now }

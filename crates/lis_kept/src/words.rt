@@ -35,6 +35,7 @@ use lis_taxonomy::Taxonomy;
 use lis_words::{Word, head_of, is_valued};
 
 // Marks the block of a property slot.
+#[tactic(auto, using(lis_model::proofs::Stored::stored_records, lis_model::proofs::Stored::few_limits))]
 fn mark_property(marks: &mut Flags, limits: &Limits, number: u32)
     requires range { IsTrue (are_stored limits.now) }
     requires number { number < limits.now.props }

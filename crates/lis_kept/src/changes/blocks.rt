@@ -1,21 +1,24 @@
 //! Blocks that contents take, and blocks that are freed.
 
-ghost use Rattle.std.specs.Prelude.{◌≡◌, ℕ, ◌+◌, ◌≤◌, true, [], List, Some, length, nat_lt, IsSome, IsTrue, OnOk, OnErr, MatchResult};
-ghost use Rattle.lis_ports.specs.Calls.{UsesDisk, ReadsDisk};
+ghost use Rattle.std.specs.Prelude.{◌≡◌, ℕ, ◌+◌, ◌-◌, ◌≤◌, nat_le, nat_lt, ◌&&◌, true, [], List, Some, length, map as mapped, IsSome, IsTrue, OnOk, OnErr, MatchResult};
+ghost use Rattle.lis_ports.specs.Calls.{DiskFaultEnds, UsesDisk, ReadsDisk};
+ghost use Rattle.lis_ports.specs.Runs.{IsDiskRun};
 ghost use Rattle.lis_journal.specs.Images.{Fits, JournalIsUsable};
 ghost use Rattle.lis_blockmap.specs.Bitmap.{free_count};
 ghost use Rattle.lis_catalog.specs.Catalog.{rec_at};
 ghost use Rattle.lis_content.specs.Large.{is_large, slot_count, file_blocks};
 ghost use Rattle.lis_fields.specs.Records.{FileRecord};
-ghost use Rattle.lis_model.specs.Image.{data_start};
+ghost use Rattle.lis_model.specs.Image.{data_start, image_blocks};
 ghost use Rattle.lis_model.specs.Ranges.{are_stored};
 ghost use Rattle.lis_model.specs.State.{blocks_taken, file_limit};
+ghost use Rattle.lis_kept.specs.Areas.{bitmap_home};
 ghost use Rattle.lis_kept.specs.Changes.{bitmap_homes, GivesBack, Puts, PutTorn};
 ghost use Rattle.std.specs.List.{list_all};
 ghost use Rattle.lis_content.specs.Content.{given, marked, are_within};
 ghost use Rattle.lis_journal.specs.Phases.{looked};
 ghost use Rattle.lis_journal.specs.Record.{homes_start};
-ghost use Rattle.lis_content.specs.Placing.{homes_of};
+ghost use Rattle.lis_content.specs.Placing.{IsPlaced, IsUnplaced, HasPlaceCause};
+ghost use Rattle.lis_content.specs.Putting.{IsPut, IsRefused};
 ghost use Rattle.lis_kept.specs.Sound.{AreSound};
 ghost use Rattle.lis_journal.specs.Journal.{shape_of};
 ghost use Rattle.lis_kept.specs.Image.{image_shape};
@@ -27,7 +30,7 @@ use lis_bits::Flags;
 use lis_blockmap::BlockMap;
 use lis_content::{Laid, PutFault, give_all, is_large, place_file, put, read_blocks};
 use lis_journal::Journal;
-use lis_limits::{BLOCK_BITS, SLOT_BLOCKS, V3_MAX_FILE};
+use lis_limits::{BLOCK_BITS, MAX_FILE, SLOT_BLOCKS, V3_MAX_FILE};
 use lis_model::limits::Limits;
 use lis_ports::{Disk, Failed};
 
@@ -38,8 +41,10 @@ fn mark_bits(marks: &mut Flags, limits: &Limits, blocks: &[u32])
     ensures { marks.new ≡ marked marks.old (bitmap_homes limits.now blocks.now) }
 {
     let first = bitmap_start(limits);
-    for n in blocks.iter().filter(|n| **n < limits.blocks) {
-        marks.put(first + n / BLOCK_BITS, true);
+    for n in blocks {
+        if *n < limits.blocks {
+            marks.put(first + n / BLOCK_BITS, true);
+        }
     }
 }
 
@@ -47,9 +52,8 @@ fn mark_bits(marks: &mut Flags, limits: &Limits, blocks: &[u32])
 fn mark_homes(marks: &mut Flags, limits: &Limits, homes: &[u32])
     requires range { IsTrue (are_stored limits.now) }
     requires long { data_start limits.now ≤ length marks.old }
-    ensures { (blocks : List ℕ) → homes.now ≡ homes_of (data_start limits.now) blocks
-        → IsTrue (list_all (λ n. nat_lt n limits.now.blocks) blocks)
-        → marks.new ≡ marked marks.old (bitmap_homes limits.now blocks) }
+    requires homes { IsTrue (list_all (λ h. nat_le (data_start limits.now) h && nat_lt h (image_blocks limits.now)) homes.now) }
+    ensures { marks.new ≡ marked marks.old (mapped (λ h. bitmap_home limits.now (h - data_start limits.now)) homes.now) }
 {
     let base = data_start(limits);
     let first = bitmap_start(limits);
@@ -100,6 +104,67 @@ fn free_large<D: Disk>(
     Ok(())
 }
 
+// Places a content with its index blocks, and marks the blocks of the bitmap that have the bits of all of them.
+fn place_marked<D: Disk>(
+    map: &mut BlockMap,
+    marks: &mut Flags,
+    limits: &Limits,
+    journal: &mut Journal,
+    disk: &mut D,
+    bytes: &[u8],
+) -> Result<ArrayVec<u32, 16>, PutFault>
+    requires range { IsTrue (are_stored limits.now) }
+    requires long { data_start limits.now ≤ length marks.old }
+    requires taken { length map.old ≡ limits.now.blocks }
+    requires short { length bytes.now ≤ file_limit limits.now }
+    requires image { shape_of journal.old ≡ image_shape limits.now }
+    requires usable { JournalIsUsable journal.old (D.meaning disk.old) }
+    requires unplaced { journal.old.placed ≡ [] }
+    requires unstaged { journal.old.staged ≡ [] }
+    ensures ended { MatchResult result
+        (λ numbers. (placed : IsPlaced limits.now.version (data_start limits.now) bytes.now map.old map.new journal.old journal.new (D.meaning disk.old) (D.meaning disk.new) numbers.items)
+        × (marks.new ≡ marked marks.old (bitmap_homes limits.now placed.blocks)))
+        (λ fault. IsUnplaced (data_start limits.now) bytes.now map.old map.new journal.old journal.new (D.meaning disk.old) (D.meaning disk.new) fault
+        × (marks.new ≡ marks.old)) }
+    ensures run { IsDiskRun (D.meaning disk.old) (D.meaning disk.new) }
+    ensures cause { HasPlaceCause (D.meaning disk.old).disk_faults (D.meaning disk.new).disk_faults result }
+    ensures first_fault { DiskFaultEnds (D.meaning disk.old) (D.meaning disk.new) }
+{
+    let base = data_start(limits);
+    let numbers = place_file(map, journal, disk, limits.version, base, bytes)?;
+    mark_homes(marks, limits, journal.placed());
+    Ok(numbers)
+}
+
+// Stages a content, and marks the blocks of the bitmap that have the bits of its blocks.
+fn stage_marked<D: Disk>(
+    map: &mut BlockMap,
+    marks: &mut Flags,
+    limits: &Limits,
+    journal: &mut Journal,
+    disk: &mut D,
+    bytes: &[u8],
+) -> Result<ArrayVec<u32, 16>, PutFault>
+    requires range { IsTrue (are_stored limits.now) }
+    requires long { data_start limits.now ≤ length marks.old }
+    requires taken { length map.old ≡ limits.now.blocks }
+    requires few { length bytes.now ≤ MAX_FILE }
+    requires image { shape_of journal.old ≡ image_shape limits.now }
+    requires usable { JournalIsUsable journal.old (D.meaning disk.old) }
+    requires unplaced { journal.old.placed ≡ [] }
+    requires room { length journal.old.staged + SLOT_BLOCKS ≤ journal.old.capacity.staged }
+    ensures ended { MatchResult result
+        (λ numbers. IsPut (data_start limits.now) [] bytes.now map.old map.new journal.old journal.new numbers.items
+        × (marks.new ≡ marked marks.old (bitmap_homes limits.now numbers.items)))
+        (λ fault. IsRefused [] bytes.now map.old map.new journal.old journal.new fault × (marks.new ≡ marks.old)) }
+    ensures disk { disk.new ≡ disk.old }
+{
+    let base = data_start(limits);
+    let numbers = put(map, journal, disk, base, &[], bytes)?;
+    mark_bits(marks, limits, numbers.as_slice());
+    Ok(numbers)
+}
+
 impl Metadata {
     /// Puts bytes into free blocks, which it takes, and returns the numbers for the slot. The bytes are staged; if they are large, they are
     /// placed, with index blocks, and then nothing may be staged. After a disk fault the journal is broken.
@@ -123,31 +188,30 @@ impl Metadata {
         ensures sound { AreSound self.new }
         ensures disk { UsesDisk (D.meaning disk.old) (D.meaning disk.new) result }
     {
-        let base = data_start(&self.limits);
-        let is_placed = is_large(bytes.len() as u32);
-        let put = if is_placed {
-            place_file(
+        let put = if is_large(bytes.len() as u32) {
+            place_marked(
                 &mut self.map,
+                &mut self.marks,
+                &self.limits,
                 journal,
                 disk,
-                self.limits.version,
-                base,
                 bytes,
             )
         } else {
-            put(&mut self.map, journal, disk, base, &[], bytes)
+            stage_marked(
+                &mut self.map,
+                &mut self.marks,
+                &self.limits,
+                journal,
+                disk,
+                bytes,
+            )
         };
-        let numbers = match put {
-            Ok(numbers) => numbers,
-            Err(PutFault::Disk) => return Err(Failed),
+        match put {
+            Ok(numbers) => Ok(numbers),
+            Err(PutFault::Disk) => Err(Failed),
             Err(PutFault::NoSpace) => unreachable!(),
-        };
-        if is_placed {
-            mark_homes(&mut self.marks, &self.limits, journal.placed());
-        } else {
-            mark_bits(&mut self.marks, &self.limits, numbers.as_slice());
         }
-        Ok(numbers)
     }
 
     /// Frees the blocks of the file in a slot. The numbers in its index blocks are read from the disk; if that fails, no block is freed.

@@ -3,13 +3,19 @@ use Rattle.std.proofs.lemmas.List.{take_all}
 use Rattle.lis_kept.proofs.Common.{sym, ap, ◌∙◌, length, map, take, marked, length-marked}
 use Rattle.lis_kept.specs.Areas.{block_of}
 use Rattle.lis_kept.specs.Areas.Area.{Rows}
+use Rattle.lis_kept.proofs.InArea.{few_ahead}
 use Rattle.lis_kept.proofs.Marking.{marked_next, row_home}
 use Rattle.lis_kept.proofs.changes.mark_rows.Goals as goal
+
+pub overflow_add-first : goal.overflow_add-first
+overflow_add-first c =
+    let home = row_home c.args.limits.now c.args.ext.now.marks c.loop-k.k c.in-Some.number c.requires.range c.requires.below (sym c.changed.ensures ∙ c.in-Some.is) in
+    omega (arith, home, c.descriptions_start-first.ensures, few_ahead c.args.limits.now c.requires.range)
 
 pub put-requires : goal.put-requires
 put-requires c =
     let home = row_home c.args.limits.now c.args.ext.now.marks c.loop-k.k c.in-Some.number c.requires.range c.requires.below (sym c.changed.ensures ∙ c.in-Some.is) in
-    omega (arith, home, c.rows_start-first.ensures, c.requires.long, ap length c.loop-k.invariant, length-marked c.args.marks.now (map (block_of c.args.limits.now Rows) (take c.loop-k.k c.args.ext.now.marks)))
+    omega (arith, home, c.descriptions_start-first.ensures, c.requires.long, ap length c.loop-k.invariant, length-marked c.args.marks.now (map (block_of c.args.limits.now Rows) (take c.loop-k.k c.args.ext.now.marks)))
 
 pub loop-k-preserved : goal.loop-k-preserved
 loop-k-preserved c =

@@ -1,12 +1,9 @@
-use Rattle.lis_kept.proofs.Common.{◌∙◌, sym, ℕ, List}
+use Rattle.lis_kept.proofs.Common.{◌∙◌, sym, ℕ, List, length}
 use Rattle.arrayvec.specs.ArrayVec.{ArrayVec}
 use Rattle.lis_kept.proofs.BlocksTaken.{MayPut, PutEnds, placed_ends, staged_ends, ended_ok, ended_err}
 use Rattle.lis_kept.specs.contracts.metadata.Metadata.{the_view}
 use Rattle.lis_kept.proofs.metadata.Metadata.put_content.Goals.{then-is_large, else-is_large, in-Ok, in-Err-Disk}
-use Rattle.std.proofs.Common.{arith, ap}
-use Rattle.lis_model.proofs.Stored.{stored_limit_le}
-use Rattle.lis_model.specs.State.{file_limit}
-use Rattle.lis_kept.specs.Metadata.{Metadata}
+use Rattle.lis_fields.proofs.Parts.{size_fits}
 use Rattle.lis_kept.proofs.metadata.Metadata.put_content.Goals as goal
 
 abbrev items : ArrayVec ℕ → List ℕ
@@ -25,15 +22,15 @@ ends g c =
     let may : MayPut k c.args.bytes.now old = record { short = c.requires.short; enough = c.requires.enough; unplaced = c.requires.unplaced; unstaged = c.requires.unstaged } in
     elim c.if-is_large.branch [
       | then-is_large w ↦
-          let r = w.place_file-put in
+          let r = w.place_marked-put in
           rw (w.journal-is, w.disk-is, w.put-is, w.self-inside-is)
-          (placed_ends items k v t c.self.view_is c.self.invariant c.args.bytes.now old r.new.journal may r.new.map c.mark_bitmap.new.marks c.mark_bitmap.ensures
-          before (g.D.Disk.meaning r.new.disk) (sym c.is_large.ensures ∙ w.if-is_large.true) r.result (rw c.data_start-base.ensures.start at r.ensures.ended))
+          (placed_ends items k v t c.self.view_is c.self.invariant c.args.bytes.now old r.new.journal may r.new.map r.new.marks before (g.D.Disk.meaning r.new.disk)
+          (sym c.is_large.ensures ∙ w.if-is_large.true) r.result r.ensures.ended)
       | else-is_large w ↦
-          let r = w.put-put in
+          let r = w.stage_marked-put in
           rw (w.journal-is, w.disk-is, w.put-is, w.self-inside-is, r.ensures.disk)
-          (staged_ends items k v t c.self.view_is c.self.invariant c.args.bytes.now old r.new.journal may r.new.map c.mark_bitmap.new.marks c.mark_bitmap.ensures
-          before (sym c.is_large.ensures ∙ w.if-is_large.false) r.result (rw c.data_start-base.ensures.start at r.ensures.ended))
+          (staged_ends items k v t c.self.view_is c.self.invariant c.args.bytes.now old r.new.journal may r.new.map r.new.marks before
+          (sym c.is_large.ensures ∙ w.if-is_large.false) r.result r.ensures.ended)
     ]
 
 pub invariant_of-self : goal.invariant_of-self
@@ -51,5 +48,4 @@ pub returns-clause-sound : goal.returns-clause-sound
 returns-clause-sound g c = (ends g c).held.sound
 
 pub is_large-requires : goal.is_large-requires
-is_large-requires g c =
-    omega (arith, c.requires.short, stored_limit_le (the_view c.self.inside).limits c.self.invariant.sound.range, ap (λ (k : Metadata). file_limit k.limits) c.self.view_is)
+is_large-requires g c = size_fits c.args.self.now.limits (length c.args.bytes.now) c.requires.short

@@ -1,11 +1,12 @@
 use Rattle.std.proofs.Common.{arith, ◌*◌, ◌+◌, ◌-◌, ◌/◌, ◌≤◌}
-use Rattle.lis_kept.proofs.Common.{◌≡◌, ◌<◌, ℕ, true, List, sym, subst, bitmap_start, AxiomSlot}
+use Rattle.lis_kept.proofs.Common.{◌≡◌, ◌<◌, ℕ, true, List, sym, subst, bitmap_start, AxiomSlot, IsTrue, are_stored}
+use Rattle.lis_model.proofs.Stored.{stored_descriptions}
 use Rattle.lis_fields.specs.Layouts.{is_axiom}
 use Rattle.lis_kept.specs.Metadata.{Metadata, axiom_at}
 use Rattle.lis_kept.specs.Inside.{IsBlock}
 use Rattle.lis_kept.specs.contracts.metadata.Metadata.{the_view}
-use Rattle.lis_model.specs.Image.{rows_start}
-use Rattle.lis_kept.proofs.InArea.{rows_few}
+use Rattle.lis_model.specs.Image.{properties_start, descriptions_start}
+use Rattle.lis_kept.proofs.InArea.{rows_few, rows_fill}
 use Rattle.lis_kept.proofs.Formed.{axioms_formed, records_formed}
 use Rattle.lis_kept.proofs.Spelled.{properties_block, axioms_block, files_block, rows_block}
 use Rattle.lis_kept.proofs.metadata.Metadata.write_block.Goals as goal
@@ -13,8 +14,10 @@ use Rattle.lis_kept.proofs.metadata.Metadata.write_block.Goals as goal
 pub returns-then-n-axioms : goal.returns-then-n-axioms
 returns-then-n-axioms c =
     let P : Metadata → Type 0 = λ k. IsBlock k c.args.n c.write_properties.new.block in
+    let Q : Metadata → Type 0 = λ k. properties_start k.limits ≤ c.args.n in
     subst P c.self.view_is
-    (properties_block (the_view c.self.inside) c.self.invariant.sound.range c.args.n c.write_properties.new.block c.requires.from (omega (arith, c.if-n-axioms.true, c.axioms_start-axioms.ensures)) c.write_properties.ensures)
+    (properties_block (the_view c.self.inside) c.self.invariant.sound.range c.args.n c.write_properties.new.block _ c.properties_start.ensures (subst Q (sym c.self.view_is) c.requires.from)
+    (omega (arith, c.if-n-axioms.true, c.axioms_start-axioms.ensures)) c.write_properties.ensures)
 
 pub write_axioms-requires-clause-forms : goal.write_axioms-requires-clause-forms
 write_axioms-requires-clause-forms c =
@@ -36,25 +39,28 @@ returns-then-n-rows c =
     let P : Metadata → Type 0 = λ k. IsBlock k c.args.n c.write_files.new.block in
     subst P c.self.view_is
     (files_block (the_view c.self.inside) c.self.invariant.sound.range c.args.n c.write_files.new.block _ c.files_start-files.ensures
-    (omega (arith, c.if-n-files.false, c.files_start-files.ensures)) (omega (arith, c.if-n-rows.true, c.rows_start-rows.ensures)) c.write_files.ensures)
+    (omega (arith, c.if-n-files.false, c.files_start-files.ensures)) (omega (arith, c.if-n-rows.true, c.descriptions_start-rows.ensures)) c.write_files.ensures)
 
 -- the row of the block's first slot
-row_within : (k now : Metadata) (n rows : ℕ) → k ≡ now → rows ≡ rows_start k.limits → rows ≤ n → n < bitmap_start now.limits → n - rows < (k.limits.props * k.limits.files + 32767) / 32768
-row_within k now n rows is from low to =
+row_within : (k now : Metadata) (n rows : ℕ) → IsTrue (are_stored k.limits) → k ≡ now → rows ≡ descriptions_start k.limits → rows ≤ n → n < bitmap_start now.limits → n - rows < (k.limits.props * k.limits.files + 32767) / 32768
+row_within k now n rows range is from low to =
     let below : n < bitmap_start k.limits = subst (λ (m : Metadata). n < bitmap_start m.limits) (sym is) to in
-    omega (arith, below, from, low)
+    omega (arith, below, from, low, stored_descriptions k.limits range)
 
 pub overflow_mul-count : goal.overflow_mul-count
 overflow_mul-count c =
     let k = the_view c.self.inside in
-    let within = row_within k c.args.self.now c.args.n c.rows_start-rows.result c.self.view_is c.rows_start-rows.ensures c.if-n-rows.false c.requires.to in
-    omega (arith, rows_few k.limits (c.args.n - c.rows_start-rows.result) c.self.invariant.sound.range within)
+    let within = row_within k c.args.self.now c.args.n c.descriptions_start-rows.result c.self.invariant.sound.range c.self.view_is c.descriptions_start-rows.ensures c.if-n-rows.false c.requires.to in
+    omega (arith, rows_few k.limits (c.args.n - c.descriptions_start-rows.result) c.self.invariant.sound.range within)
+
+pub write_rows-requires-clause-whole : goal.write_rows-requires-clause-whole
+write_rows-requires-clause-whole c = rows_fill (the_view c.self.inside).limits c.self.invariant.sound.range
 
 pub write_rows-requires-clause-few : goal.write_rows-requires-clause-few
 write_rows-requires-clause-few c =
     let k = the_view c.self.inside in
-    let within = row_within k c.args.self.now c.args.n c.rows_start-rows.result c.self.view_is c.rows_start-rows.ensures c.if-n-rows.false c.requires.to in
-    rows_few k.limits (c.args.n - c.rows_start-rows.result) c.self.invariant.sound.range within
+    let within = row_within k c.args.self.now c.args.n c.descriptions_start-rows.result c.self.invariant.sound.range c.self.view_is c.descriptions_start-rows.ensures c.if-n-rows.false c.requires.to in
+    rows_few k.limits (c.args.n - c.descriptions_start-rows.result) c.self.invariant.sound.range within
 
 pub returns : goal.returns
 returns c =
@@ -62,5 +68,5 @@ returns c =
     let P : Metadata → Type 0 = λ k. IsBlock k c.args.n c.write_rows.new.block in
     let Q : Metadata → Type 0 = λ k. c.args.n < bitmap_start k.limits in
     subst P c.self.view_is
-    (rows_block v c.self.invariant.sound.range c.args.n c.write_rows.new.block _ c.rows_start-rows.ensures
-    (omega (arith, c.if-n-rows.false, c.rows_start-rows.ensures)) (subst Q (sym c.self.view_is) c.requires.to) c.write_rows.ensures)
+    (rows_block v c.self.invariant.sound.range c.args.n c.write_rows.new.block _ c.descriptions_start-rows.ensures
+    (omega (arith, c.if-n-rows.false, c.descriptions_start-rows.ensures)) (subst Q (sym c.self.view_is) c.requires.to) c.write_rows.ensures)
