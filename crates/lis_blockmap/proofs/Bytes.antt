@@ -1,11 +1,12 @@
 -- The bytes of a block of the bitmap.
-use Rattle.std.proofs.Common.{◌≡◌, ℕ, zero, suc, ◌+◌, ◌*◌, ◌^◌, ◌<◌, ◌≤◌, Bool, true, false, not, if◌then◌else◌, List, length, refl, sym, ap, ap₂, ◌∙◌, arith, add-one}
+use Rattle.std.proofs.Common.{◌≡◌, ℕ, zero, suc, ◌+◌, ◌*◌, ◌/◌, ◌%◌, ◌^◌, ◌<◌, ◌≤◌, Bool, true, false, not, if◌then◌else◌, List, length, get_or, refl, sym, ap, ap₂, ◌∙◌, arith, add-one}
 use Rattle.std.proofs.lemmas.List.{get_or_past}
 use Rattle.std.proofs.Math.Nat.{pow-suc, pow-le-pow_right}
 use mir.Val.{bool_byte}
-use Rattle.lis_bits.specs.Bytes.{bits_number}
-use Rattle.lis_bits.proofs.Numbers.{number_below, number_none, number_same}
-use Rattle.lis_blockmap.specs.Bitmap.{is_taken}
+use Rattle.lis_bits.specs.Bytes.{bits_number, bits_bytes}
+use Rattle.lis_bits.specs.Words.{word_bit}
+use Rattle.lis_bits.proofs.Numbers.{number_below, number_none, number_same, number_is, bytes_are}
+use Rattle.lis_blockmap.specs.Bitmap.{is_taken, has_bit}
 
 -- a truth value as a byte
 pub bit_small : (b : Bool) → bool_byte b ≤ 1
@@ -55,3 +56,15 @@ turned_over zero bit turned each = refl
 turned_over (suc n) bit turned each =
     let rest = turned_over n (λ i. bit (i + 1)) (λ i. turned (i + 1)) (λ i lt. each (i + 1) (omega arith)) in
     rw pow-suc (one_turned (bit 0) (turned 0) (bits_number n (λ i. turned (i + 1))) (bits_number n (λ i. bit (i + 1))) (2 ^ n) (each 0 (omega arith)) rest)
+
+-- ---- the bits of a block
+in_bytes : (bytes : List ℕ) (bit : ℕ → Bool) → length bytes ≡ 4096 → ((k : ℕ) → get_or bytes k 0 < 2 ^ 8) → ((n : ℕ) → n < 32768 → has_bit bytes n ≡ bit n) → bytes ≡ bits_bytes 4096 bit
+in_bytes bytes bit long small same =
+    bytes_are bytes 4096 bit long (λ k lt. number_is 8 (get_or bytes k 0) (λ i. bit (8 * k + i)) (small k) (λ i within.
+    let byte : k ≡ (8 * k + i) / 8 = omega arith in
+    let place : i ≡ (8 * k + i) % 8 = omega arith in
+    ap₂ (λ at i. word_bit (get_or bytes at 0) i) byte place ∙ same (8 * k + i) (omega arith)))
+
+-- two blocks with the same bits are one
+pub same_from_bits : (a b : List ℕ) → length a ≡ 4096 → length b ≡ 4096 → ((k : ℕ) → get_or a k 0 < 2 ^ 8) → ((k : ℕ) → get_or b k 0 < 2 ^ 8) → ((n : ℕ) → n < 32768 → has_bit a n ≡ has_bit b n) → a ≡ b
+same_from_bits a b long_a long_b small_a small_b same = in_bytes a (has_bit b) long_a small_a same ∙ sym (in_bytes b (has_bit b) long_b small_b (λ n lt. refl))

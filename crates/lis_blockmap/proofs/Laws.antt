@@ -1,7 +1,7 @@
 -- What crates above need of the bitmap's blocks: their bits say which data blocks are taken.
-use Rattle.std.proofs.Common.{◌≡◌, ℕ, ◌+◌, ◌*◌, ◌/◌, ◌%◌, ◌^◌, ◌<◌, Bool, List, length, get_or, ap, ap₂, ◌∙◌, arith}
+use Rattle.std.proofs.Common.{◌≡◌, ℕ, ◌+◌, ◌*◌, ◌/◌, ◌%◌, ◌<◌, Bool, List, ap, ◌∙◌, arith}
 use Rattle.lis_bits.specs.Words.{word_bit}
-use Rattle.lis_bits.proofs.Numbers.{number_bit, number_is, bytes_are, byte-bits_bytes}
+use Rattle.lis_bits.proofs.Numbers.{number_bit, byte-bits_bytes}
 use Rattle.lis_blockmap.specs.Bitmap.{is_taken, bitmap_bytes, has_bit}
 
 pub has_bit-bitmap_bytes : (n : ℕ) (taken : List Bool) (bit : ℕ) → bit < 32768 → has_bit (bitmap_bytes n taken) bit ≡ is_taken taken (32768 * n + bit)
@@ -11,12 +11,3 @@ has_bit-bitmap_bytes n taken bit lt =
     let place : 32768 * n + (8 * (bit / 8) + bit % 8) ≡ 32768 * n + bit = omega arith in
     ap (λ byte. word_bit byte (bit % 8)) (byte-bits_bytes 4096 (λ k. is_taken taken (32768 * n + k)) (bit / 8) in_block)
     ∙ (number_bit 8 (λ i. is_taken taken (32768 * n + (8 * (bit / 8) + i))) (bit % 8) (omega arith) ∙ ap (is_taken taken) place)
-
--- a block of bytes with all these bits is that block of the bitmap
-pub bitmap_from_bits : (n : ℕ) (taken : List Bool) (bytes : List ℕ) → length bytes ≡ 4096 → ((k : ℕ) → k < 4096 → get_or bytes k 0 < 2 ^ 8) → ((bit : ℕ) → bit < 32768 → has_bit bytes bit ≡ is_taken taken (32768 * n + bit)) → bytes ≡ bitmap_bytes n taken
-unfolding bitmap_bytes
-bitmap_from_bits n taken bytes long small same =
-    bytes_are bytes 4096 (λ k. is_taken taken (32768 * n + k)) long (λ k lt. number_is 8 (get_or bytes k 0) (λ i. is_taken taken (32768 * n + (8 * k + i))) (small k lt) (λ i within.
-    let byte : k ≡ (8 * k + i) / 8 = omega arith in
-    let bit : i ≡ (8 * k + i) % 8 = omega arith in
-    ap₂ (λ at i. word_bit (get_or bytes at 0) i) byte bit ∙ same (8 * k + i) (omega arith)))

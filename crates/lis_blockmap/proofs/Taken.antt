@@ -8,7 +8,7 @@ use Rattle.std.proofs.lemmas.List.Folds.{sum_by-replicate}
 use Rattle.std.proofs.lemmas.List.Sums.{sum_by-set, count_by-le-length}
 use Rattle.lis_bits.specs.Rows.{Rows, get, with_row, NoneTrue}
 use Rattle.lis_bits.proofs.Laws.{get-with_row_same, length-with_row}
-use Rattle.lis_blockmap.specs.Bitmap.{free_count}
+use Rattle.lis_blockmap.specs.Bitmap.{free_count, NoneFree}
 use Rattle.lis_blockmap.specs.Inside.{taken_of, HasFree, IsSoundMap}
 
 -- ---- counts
@@ -163,6 +163,15 @@ module _ (rows : Rows) (blocks free : ℕ) (sound : IsSoundMap rows blocks free)
       let lt = found_within n free_bit in_row in
       omega (arith, marked_fewer rows blocks free n sound lt (found_free n free_bit in_row))
 
+  -- where no bit is true, no block is free
+  pub none_free_there : (start end : ℕ) → end ≤ blocks → NoneTrue rows 0 start end → NoneFree (taken_of rows blocks) start end
+  none_free_there start end within none k ge lt = get-taken_of rows blocks k (omega (arith, within, lt)) ∙ ap not (none k ge lt)
+
+  pub none_free_on : (start : ℕ) → NoneTrue rows 0 start rows.bits → NoneFree (taken_of rows blocks) start (length (taken_of rows blocks))
+  none_free_on start none k ge lt =
+      let in_blocks : k < blocks = omega (arith, length-taken_of rows blocks, lt) in
+      get-taken_of rows blocks k in_blocks ∙ ap not (none k ge (omega (arith, in_blocks, sound.wide)))
+
   -- the same of a search that may find none
   module _ (found : Option ℕ) (free_bit : IfSome found (λ n. get rows 0 n ≡ true)) (in_row : IfSome found (λ n. n < rows.bits)) where
     pub is_none : IfNone found (NoneTrue rows 0 0 rows.bits) → IsNone found ↔ (free_count (taken_of rows blocks) ≡ 0)
@@ -185,3 +194,12 @@ module _ (rows : Rows) (blocks free : ℕ) (sound : IsSoundMap rows blocks free)
         go : (o : Option ℕ) → IfSome o (λ n. get rows 0 n ≡ true) → IfSome o (λ n. n < rows.bits) → IfSome o (λ n. get_or (taken_of rows blocks) n false ≡ false)
         go None a b = tt
         go (Some n) a b = found_free n a b
+
+    pub is_wrapped : (from : ℕ) → NoneFree (taken_of rows blocks) from (length (taken_of rows blocks)) → IfSome found (λ n. NoneTrue rows 0 0 n)
+        → IfSome found (λ n. n < from → NoneFree (taken_of rows blocks) from (length (taken_of rows blocks)) × NoneFree (taken_of rows blocks) 0 n)
+    is_wrapped from behind least = go found free_bit in_row least
+      where
+        go : (o : Option ℕ) → IfSome o (λ n. get rows 0 n ≡ true) → IfSome o (λ n. n < rows.bits) → IfSome o (λ n. NoneTrue rows 0 0 n)
+            → IfSome o (λ n. n < from → NoneFree (taken_of rows blocks) from (length (taken_of rows blocks)) × NoneFree (taken_of rows blocks) 0 n)
+        go None a b least = tt
+        go (Some n) a b least = λ _. (behind, none_free_there 0 n (omega (arith, found_within n a b)) least)

@@ -1,5 +1,5 @@
 -- Which of the data blocks are taken, and the blocks that say so.
-use Rattle.std.specs.Prelude.{◌≡◌, ◌≢◌, ℕ, ◌+◌, ◌*◌, ◌/◌, ◌%◌, ◌<◌, ◌==◌, Bool, not, false, List, count_by, slice_index, slice_index_or}
+use Rattle.std.specs.Prelude.{◌≡◌, ◌≢◌, ℕ, ◌+◌, ◌*◌, ◌/◌, ◌%◌, ◌<◌, ◌≤◌, ◌==◌, Bool, not, true, false, List, count_by, slice_index, slice_index_or}
 use Rattle.std.specs.Int.{bit_at}
 use Rattle.lis_limits.specs.declared.TheConstants.{BLOCK_LEN, BLOCK_BITS}
 use Rattle.lis_bits.specs.Bytes.{bits_bytes}
@@ -11,6 +11,10 @@ free_count taken = count_by not taken
 -- a block is taken
 abbrev pub is_taken : List Bool → ℕ → Bool
 is_taken taken n = slice_index_or taken n false
+
+-- no block from the first number up to the second is free
+abbrev pub NoneFree : List Bool → ℕ → ℕ → Type 0
+NoneFree taken start end = (k : ℕ) → start ≤ k → k < end → is_taken taken k ≡ true
 
 -- Block n of the bitmap has the bits of 32,768 data blocks, from 32,768 n on: bit k mod 8 of byte k / 8 says whether data block
 -- 32,768 n + k is taken. All bits past the last data block are 0.

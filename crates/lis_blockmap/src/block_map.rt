@@ -1,8 +1,8 @@
-ghost use Rattle.std.specs.Prelude.{◌≡◌, ◌⊎◌, ◌↔◌, ℕ, ◌+◌, ◌*◌, ◌/◌, ◌<◌, ◌≤◌, ◌==◌, if◌then◌else◌, false, true, List, length, replicate, slice_set, IsTrue, IfOk, IsNone, IfNone, IfSome, OnSome};
+ghost use Rattle.std.specs.Prelude.{◌≡◌, ◌≢◌, ◌⊎◌, ◌↔◌, ℕ, ◌+◌, ◌*◌, ◌/◌, ◌<◌, ◌≤◌, ◌==◌, if◌then◌else◌, false, true, List, length, replicate, slice_set, IsTrue, IfOk, IsNone, IfNone, IfSome, OnSome};
 ghost use Rattle.lis_bits.specs.Bytes.{bits_number};
 ghost use Rattle.lis_journal.specs.Images.{look, is_among};
 ghost use Rattle.lis_journal.specs.Staging.{with_entry, has_entry};
-ghost use Rattle.lis_blockmap.specs.Bitmap.{free_count, is_taken, bitmap_bytes, has_bit, IsFirstDifference};
+ghost use Rattle.lis_blockmap.specs.Bitmap.{free_count, is_taken, bitmap_bytes, has_bit, IsFirstDifference, NoneFree};
 ghost use Rattle.lis_blockmap.specs.Inside.{HasFree};
 ghost use Rattle.lis_journal.specs.Record.{homes_start};
 
@@ -39,6 +39,23 @@ fn has_bit(bytes: &[u8], n: u32) -> bool
     ensures { result ≡ has_bit bytes.now n }
 {
     bytes[n as usize / 8] >> (n % 8) & 1 == 1
+}
+
+// The first bit in which two blocks differ.
+fn first_unlike(a: &[u8], b: &[u8]) -> Option<u32>
+    requires first { length a.now ≡ BLOCK_LEN }
+    requires second { length b.now ≡ BLOCK_LEN }
+    ensures same { IfNone result (a.now ≡ b.now) }
+    ensures within { IfSome result (λ bit. bit < BLOCK_BITS) }
+    ensures here { IfSome result (λ bit. has_bit a.now bit ≢ has_bit b.now bit) }
+    ensures none_before { IfSome result (λ bit. (m : ℕ) → m < bit → has_bit a.now m ≡ has_bit b.now m) }
+{
+    for bit in 0..BLOCK_BITS {
+        if has_bit(a, bit) != has_bit(b, bit) {
+            return Some(bit);
+        }
+    }
+    None
 }
 
 // A row with the bits of `blocks` blocks, all of them free.
@@ -92,12 +109,14 @@ impl BlockMap {
         !self.rows.get(0, n)
     }
 
-    /// Takes a free block, if there is one. The search begins at block `from` and goes on at the first one.
+    /// Takes a free block, if there is one. The search begins at block `from`, and continues from block 0 if no later one is free.
     pub fn take(&mut self, from: u32) -> Option<u32>
         ensures none { IsNone result ↔ (free_count self.old ≡ 0) }
         ensures stays { IfNone result (self.new ≡ self.old) }
         ensures within { IfSome result (λ n. n < length self.old) }
         ensures was_free { IfSome result (λ n. is_taken self.old n ≡ false) }
+        ensures next { IfSome result (λ n. from ≤ n → NoneFree self.old from n) }
+        ensures wraps { IfSome result (λ n. n < from → NoneFree self.old from (length self.old) × NoneFree self.old 0 n) }
         ensures taken { IfSome result (λ n. self.new ≡ slice_set self.old n true) }
         ensures fewer { OnSome result (free_count self.new + 1 ≡ free_count self.old) }
     {
@@ -153,28 +172,26 @@ impl BlockMap {
         ensures same { IfNone result (bytes.now ≡ bitmap_bytes n self.now) }
         ensures differs { IfSome result (λ bit. IsFirstDifference n bytes.now self.now bit) }
     {
-        // The numbers of the blocks fit, since there are not more.
-        let _ = &self.blocks;
-        for bit in 0..BLOCK_BITS {
-            if has_bit(bytes, bit) != self.is_taken(BLOCK_BITS * n + bit) {
-                return Some(bit);
-            }
+        let mut block = [0; BLOCK_LEN];
+        self.write_to(n, &mut block);
+        if block.as_slice() == bytes {
+            return None;
         }
-        None
+        first_unlike(bytes, &block)
     }
 
-    // The number of a free block, if there is one.
+    // The number of a free block, if there is one: the least from block `from` on, or else the least of all.
     fn next_free(&self, from: u32) -> Option<u32>
         ensures none { IsNone result ↔ (free_count self.now ≡ 0) }
         ensures within { IfSome result (λ n. n < length self.now) }
         ensures free { IfSome result (λ n. is_taken self.now n ≡ false) }
+        ensures next { IfSome result (λ n. from ≤ n → NoneFree self.now from n) }
+        ensures wraps { IfSome result (λ n. n < from → NoneFree self.now from (length self.now) × NoneFree self.now 0 n) }
     {
-        if from < self.blocks
-            && let Some(n) = self.rows.next(0, from)
-        {
-            return Some(n);
+        match self.rows.next(0, from) {
+            Some(n) => Some(n),
+            None => self.rows.next(0, 0),
         }
-        self.rows.next(0, 0)
     }
 
     // Writes block `n` of the bitmap.

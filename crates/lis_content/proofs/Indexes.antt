@@ -8,7 +8,7 @@ use Rattle.std.proofs.lemmas.List.FromFn.{length-map-range_with_len, get_or-map-
 use Rattle.byteorder.specs.Endian.{little_bytes, little_number}
 use Rattle.byteorder.specs.Numbers.{length-bytes_low_first, little_from-take, little_number-reads_back}
 use Rattle.lis_model.specs.Sets.{fit}
-use Rattle.lis_model.specs.State.{blocks_needed, blocks_taken}
+use Rattle.lis_model.specs.State.{blocks_needed, blocks_taken, index_blocks}
 use Rattle.lis_fields.specs.Layouts.{number_width}
 use Rattle.lis_fields.proofs.NumberLists.{wide, length_wide, read_wide}
 use Rattle.lis_fields.proofs.Widths.{padding_zero, padded_from}
@@ -148,10 +148,17 @@ small_content version base slot size at is = ap (λ ns. content base ns size at)
 
 -- a slot has the numbers of the index blocks, if there are any, and otherwise those of the content
 pub large_slot : (size : ℕ) → is_large size ≡ true → slot_count size ≡ (blocks_needed size + 1023) / 1024
-large_slot size is = cond-true (is_large size) ((blocks_needed size + 1023) / 1024) (blocks_needed size) is
+large_slot size is = cond-true (is_large size) (index_blocks 2 n) n is ∙ cond-false (nat_le n 16) 0 ((n + 1023) / 1024) (more (nat_le n 16) refl)
+  where
+    n : ℕ
+    n = blocks_needed size
+
+    more : (few : Bool) → nat_le n 16 ≡ few → nat_le n 16 ≡ false
+    more true few = absurd (omega (arith, ltb-true 16 n is, leb-true n 16 few))
+    more false few = few
 
 pub small_slot : (size : ℕ) → is_large size ≡ false → slot_count size ≡ blocks_needed size
-small_slot size is = cond-false (is_large size) ((blocks_needed size + 1023) / 1024) (blocks_needed size) is
+small_slot size is = cond-false (is_large size) (index_blocks 2 (blocks_needed size)) (blocks_needed size) is
 
 -- the content has as many blocks as its size takes
 pub length-content_blocks : (version base : ℕ) (slot : List ℕ) (size : ℕ) (at : ℕ → List ℕ) → length slot ≡ slot_count size → length (content_blocks version base slot size at) ≡ blocks_needed size

@@ -1,5 +1,5 @@
 -- Reads of blocks one by one, each into its part of a buffer.
-use Rattle.std.proofs.Common.{◌≡◌, ◌⊎◌, ℕ, zero, suc, ◌+◌, ◌-◌, ◌*◌, ◌/◌, ◌<◌, ◌≤◌, min, nat_lt, Bool, true, false, cond, List, [], ◌∷◌, ◌++◌, length, take, drop, get_or, refl, sym, ◌∙◌, ap, inl, inr, arith, length-append}
+use Rattle.std.proofs.Common.{◌≡◌, ◌⊎◌, ℕ, zero, suc, ◌+◌, ◌-◌, ◌*◌, ◌/◌, ◌<◌, ◌≤◌, min, nat_lt, Bool, true, false, List, [], ◌∷◌, ◌++◌, length, take, drop, get_or, refl, sym, ◌∙◌, ap, inl, inr, arith, length-append}
 use Rattle.std.specs.List.{flat_map}
 use Rattle.std.proofs.Math.Seq.{take-append-add}
 use Rattle.std.proofs.lemmas.Bool.{and_parts, ltb-true, cases_lt}
@@ -15,7 +15,7 @@ use Rattle.lis_journal.specs.Images.{Fits}
 use Rattle.lis_journal.specs.Phases.{looked}
 use Rattle.lis_content.specs.Content.{are_within}
 use Rattle.lis_content.specs.Large.{is_large, slot_count, index_home, content_blocks, HasNumber, MayHaveNumber}
-use Rattle.lis_content.proofs.Indexes.{large_slot}
+use Rattle.lis_content.proofs.Indexes.{large_slot, small_slot}
 
 -- the parts of a file so far, by what its blocks hold
 pub record IsFilled (at : ℕ → List ℕ) (ns : List ℕ) (k size : ℕ) (buf : List ℕ) : Type 0 where
@@ -45,11 +45,11 @@ within_at base bound (n ∷ ns) (suc k) within lt = within_at base bound ns k (a
 
 -- the slot of a file with a block has a number
 pub slot_some : (size n : ℕ) → n < blocks_needed size → 0 < slot_count size
-slot_some size n lt = by (is_large size)
+slot_some size n lt = by (is_large size) refl
   where
-    by : (t : Bool) → 0 < cond t ((blocks_needed size + 1023) / 1024) (blocks_needed size)
-    by true = omega (arith, lt)
-    by false = omega (arith, lt)
+    by : (t : Bool) → is_large size ≡ t → 0 < slot_count size
+    by true large = omega (arith, lt, large_slot size large)
+    by false small = omega (arith, lt, small_slot size small)
 
 -- the index block of each number is one of the slot's
 pub slot_index : (slot : List ℕ) (size n : ℕ) → length slot ≡ slot_count size → is_large size ≡ true → n < blocks_needed size → n / 1024 < length slot

@@ -1,10 +1,10 @@
--- The blocks of a file. If its content takes more than 16, index blocks have their numbers, 1,024 each, and the slot has only the numbers of
--- the index blocks.
+-- The blocks of a file. If its content takes more than 16, index blocks have their numbers, at most 1,024 each, and the slot has only the
+-- numbers of the index blocks.
 use Rattle.std.specs.Prelude.{◌-◌, ◌≡◌, ◌≢◌, ℕ, ◌+◌, ◌*◌, ◌/◌, ◌%◌, ◌<◌, min, nat_lt, Bool, true, if◌then◌else◌, List, ◌++◌, length, map, drop, replicate, slice_index}
 use Rattle.std.specs.List.{flat_map, range_with_len}
 use Rattle.lis_limits.specs.declared.TheConstants.{BLOCK_LEN, NUMBERS_PER_INDEX, SLOT_BLOCKS}
 use Rattle.byteorder.specs.Endian.{little_bytes, little_number}
-use Rattle.lis_model.specs.State.{blocks_needed}
+use Rattle.lis_model.specs.State.{blocks_needed, index_blocks}
 use Rattle.lis_fields.specs.Layouts.{number_width}
 use Rattle.lis_words.specs.Bytes.{padded}
 use Rattle.lis_content.specs.Content.{content}
@@ -13,9 +13,9 @@ use Rattle.lis_content.specs.Content.{content}
 abbrev pub is_large : ℕ → Bool
 is_large size = nat_lt SLOT_BLOCKS (blocks_needed size)
 
--- how many numbers a slot has for this many bytes: those of the index blocks, if there are any
+-- how many numbers a slot has for this many bytes: those of the index blocks, if there are any (as from version 2 on)
 abbrev pub slot_count : ℕ → ℕ
-slot_count size = if is_large size then (blocks_needed size + (NUMBERS_PER_INDEX - 1)) / NUMBERS_PER_INDEX else blocks_needed size
+slot_count size = if is_large size then index_blocks 2 (blocks_needed size) else blocks_needed size
 
 -- an index block: the numbers in order, the lowest byte of each first, and zeros
 abbrev pub index_bytes : ℕ → List ℕ → List ℕ

@@ -49,7 +49,8 @@ pub record HasFile (version base : ℕ) (bytes slot blocks : List ℕ) (at : ℕ
   pub index : IsIndexed version base slot (length bytes) at
   pub all : file_blocks version base slot (length bytes) at ≡ blocks
 
--- The bytes are in blocks that were free, and these blocks are placed.
+-- The bytes are in blocks that were free, and these blocks are placed. They are counted as from version 2 on; no content of version 1 is
+-- placed.
 pub record IsPlaced (version base : ℕ) (bytes : List ℕ) (taken now_taken : List Bool) (before now : Held) (old new : Meaning) (slot : List ℕ) : Type 0 where
   pub blocks : List ℕ
   pub lays : Lays base taken now_taken before now old new blocks (HasFile version base bytes slot blocks)

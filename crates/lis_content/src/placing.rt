@@ -138,14 +138,16 @@ fn push_row(taken: &mut ArrayVec<u32, MAX_FILE_BLOCKS>, row: Row)
     }
 }
 
-// Places the bytes in free blocks: whole blocks row by row, and then what is left.
+// Places the bytes in free blocks: whole blocks row by row, and then what is left. Their numbers come into a list that is empty. The
+// result is the number after the last of them. No block below it is free then, since the first search begins at block 0.
 fn place_bytes<D: Disk>(
     map: &mut BlockMap,
     journal: &mut Journal,
     disk: &mut D,
     base: u32,
     bytes: &[u8],
-) -> Result<ArrayVec<u32, MAX_FILE_BLOCKS>, Failed>
+    taken: &mut ArrayVec<u32, MAX_FILE_BLOCKS>,
+) -> Result<u32, Failed>
     requires numbered { length map.old ≤ V3_MAX_BLOCKS }
     requires few { length bytes.now ≤ V3_MAX_FILE }
     requires enough { blocks_needed (length bytes.now) ≤ free_count map.old }
@@ -155,36 +157,37 @@ fn place_bytes<D: Disk>(
     requires unplaced { journal.old.placed ≡ [] }
     requires unstaged { AreUnstaged base map.old journal.old.staged }
     requires room { blocks_needed (length bytes.now) ≤ journal.old.capacity.placed }
+    requires none { taken.old.items ≡ [] }
     ensures ended { MatchResult result
-        (λ blocks. IsLaid base bytes.now map.old map.new journal.old journal.new (D.meaning disk.old) (D.meaning disk.new) blocks.items)
+        (λ _. IsLaid base bytes.now map.old map.new journal.old journal.new (D.meaning disk.old) (D.meaning disk.new) taken.new.items)
         (λ _. IsTornOff base map.old map.new journal.old journal.new (D.meaning disk.old) (D.meaning disk.new)) }
     ensures disk { UsesDisk (D.meaning disk.old) (D.meaning disk.new) result }
 {
-    let mut taken = ArrayVec::new();
     let mut rest = bytes;
     let mut from = 0;
     while rest.len() >= BLOCK_LEN {
         let row = place_row(map, journal, disk, base, from, rest)?;
         from = row.first + row.count;
-        push_row(&mut taken, row);
+        push_row(taken, row);
         let (_, behind) = rest.split_at(row.count as usize * BLOCK_LEN);
         rest = behind;
     }
     if rest.is_empty() {
-        return Ok(taken);
+        return Ok(from);
     }
     let n = place_block(map, journal, disk, base, from, rest)?;
     taken.push(n);
-    Ok(taken)
+    Ok(n + 1)
 }
 
-// Places an index block with these numbers.
+// Places an index block with these numbers. The search for a free block begins at block `from`.
 fn place_index<D: Disk>(
     map: &mut BlockMap,
     journal: &mut Journal,
     disk: &mut D,
     version: u32,
     base: u32,
+    from: u32,
     numbers: &[u32],
 ) -> Result<u32, Failed>
     requires count { length numbers.now ≤ NUMBERS_PER_INDEX }
@@ -204,7 +207,7 @@ fn place_index<D: Disk>(
     let mut held = [0; BLOCK_LEN];
     let (used, _) = held.split_at_mut(number_width(version) * numbers.len());
     write_wide(numbers, used, version);
-    place_block(map, journal, disk, base, 0, used)
+    place_block(map, journal, disk, base, from, used)
 }
 
 // The numbers, as a slot has them.
@@ -217,7 +220,7 @@ fn slot_of(numbers: &[u32]) -> ArrayVec<u32, 16>
     slot
 }
 
-// Places the bytes, and then the index blocks if there are any, which number 1,024 blocks each.
+// Places the bytes, and then the index blocks if there are any, which number at most 1,024 blocks each.
 fn place_all<D: Disk>(
     map: &mut BlockMap,
     journal: &mut Journal,
@@ -240,7 +243,8 @@ fn place_all<D: Disk>(
         (λ _. IsTornOff base map.old map.new journal.old journal.new (D.meaning disk.old) (D.meaning disk.new)) }
     ensures disk { UsesDisk (D.meaning disk.old) (D.meaning disk.new) result }
 {
-    let numbers = place_bytes(map, journal, disk, base, bytes)?;
+    let mut numbers = ArrayVec::new();
+    let mut from = place_bytes(map, journal, disk, base, bytes, &mut numbers)?;
     if !is_large(bytes.len() as u32) {
         return Ok(slot_of(&numbers));
     }
@@ -248,8 +252,9 @@ fn place_all<D: Disk>(
     let mut rest = numbers.as_slice();
     while !rest.is_empty() {
         let (front, behind) = rest.split_at(rest.len().min(NUMBERS_PER_INDEX as usize));
-        let n = place_index(map, journal, disk, version, base, front)?;
+        let n = place_index(map, journal, disk, version, base, from, front)?;
         slot.push(n);
+        from = n + 1;
         rest = behind;
     }
     Ok(slot)

@@ -3,7 +3,7 @@ use Rattle.std.proofs.Common.{MatchResult, OnOk, OnErr, ap₂, arith, nat_le, mi
 use Rattle.lis_kept.proofs.Common.{rules, ◌≡◌, refl, sym, ap, ◌∙◌, subst, ℕ, zero, suc, ◌≤◌, nat_lt, not, Bool, true, false, List, [], ◌∷◌, length, map, drop, Result, Ok, Err, list_all, and_parts, ltb-true, lt-ltb, Held, are_distinct, slot_count, FileRecord, Taxonomy, Among, marked, length-marked, data_start, all_among, and_from, all_from, ◌==◌, ◌&&◌, ◌||◌, ◌/◌, ◌*◌, Limits, cond, ◌+◌, ◌⊎◌, inl, inr, IsTrue, are_stored}
 use Rattle.lis_model.specs.Ranges.{most_blocks}
 use Rattle.lis_model.proofs.Stored.{stored_parts}
-use Rattle.std.proofs.lemmas.Bool.{cond-true, cond-false, eq-eqb, ltb-false, leb-false, and_from}
+use Rattle.std.proofs.lemmas.Bool.{cond-true, eq-eqb, ltb-false, leb-false, and_from}
 use Rattle.lis_ports.specs.Meaning.{Meaning}
 use Rattle.lis_ports.specs.Runs.{Leaves}
 use Rattle.lis_ports.proofs.Moments.{leaves_none}
@@ -18,7 +18,7 @@ use Rattle.lis_content.specs.Putting.{IsPut, IsRefused}
 use Rattle.lis_content.specs.declared.fault.PutFault.{PutFault}
 use Rattle.lis_content.specs.declared.fault.PutFault.TheVariants.{NoSpace, Disk}
 use Rattle.lis_content.proofs.Numbers.{length-given, are_below, below_from_free, within_if_below}
-use Rattle.lis_content.proofs.Indexes.{small_blocks, small_content}
+use Rattle.lis_content.proofs.Indexes.{small_blocks, small_content, small_slot}
 use Rattle.lis_content.proofs.Files.{slot_were_free}
 use Rattle.lis_content.proofs.Laying.{among_homes}
 use Rattle.lis_fields.specs.Layouts.{are_blocks, number_width, slot_blocks}
@@ -158,7 +158,7 @@ module _ (p : Metadata) (t : Taxonomy) (held : AreHeld p t) (bytes numbers : Lis
   not_large large = let e : true ≡ false = sym large ∙ small in cc
 
   counted : length numbers ≡ slot_count (length bytes)
-  counted = put.count ∙ sym (cond-false (is_large (length bytes)) ((blocks_needed (length bytes) + 1023) / 1024) (blocks_needed (length bytes)) small)
+  counted = put.count ∙ sym (small_slot (length bytes) small)
 
   staged_fits : (kept : ℕ → List ℕ) → Fits old m kept → Fits new m kept
   staged_fits kept fits = search (rules)

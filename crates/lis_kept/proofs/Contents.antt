@@ -1,7 +1,7 @@
 -- The bytes and the blocks of a file, and what stays when other blocks change.
 use Rattle.lis_kept.proofs.Common.{rules, ◌≡◌, ℕ, ◌+◌, ◌≤◌, true, List, length, eqb-true, Among, among_from_any, among_right, slot_count, Dict, FileRecord, slot_blocks, Limits, data_start, IsTrue, ◌⊎◌, ◌*◌, ◌/◌, ◌==◌, Bool, false, cond, refl, sym, subst, ◌∙◌, inl, inr, are_stored}
-use Rattle.std.proofs.lemmas.Bool.{cond-false, leb-true, leb-false, ltb-true, ltb-false}
-use Rattle.lis_content.proofs.Indexes.{large_blocks, small_blocks, small_size}
+use Rattle.std.proofs.lemmas.Bool.{leb-true, leb-false, ltb-true, ltb-false}
+use Rattle.lis_content.proofs.Indexes.{large_blocks, small_blocks, small_size, small_slot}
 use Rattle.lis_content.proofs.Files.{AreSame, same_file as same_in_content}
 use Rattle.lis_fields.proofs.Parts.{few_blocks}
 use Rattle.lis_model.specs.State.{file_limit, blocks_needed}
@@ -24,10 +24,10 @@ slot_blocks_counted limits size range few = of_version (stored_parts limits rang
     within v = size ≤ cond (v == 1) 65536 (cond (v == 2) 1048576 (min 67108864 (4096 * limits.blocks)))
 
     first : size ≤ 65536 → slot_blocks 1 size ≡ slot_count size
-    first le = sym (cond-false (is_large size) ((n + 1023) / 1024) n (small_size size le))
+    first le = sym (small_slot size (small_size size le))
 
     second : (small large : Bool) → nat_le n 16 ≡ small → nat_lt 16 n ≡ large → size ≤ 1048576
-        → cond (cond small 0 ((n + 1023) / 1024) == 0) n (cond small 0 ((n + 1023) / 1024)) ≡ cond large ((n + 1023) / 1024) n
+        → cond (cond small 0 ((n + 1023) / 1024) == 0) n (cond small 0 ((n + 1023) / 1024)) ≡ cond large (cond small 0 ((n + 1023) / 1024)) n
     second true true e f le = absurd (omega (arith, leb-true n 16 e, ltb-true 16 n f))
     second true false e f le = refl
     second false true e f le =

@@ -11,17 +11,17 @@ place_bytes-requires-clause-numbered g c = omega (arith, c.requires.numbered, mo
 
 pub returns-then-not-is_large-clause-ended : goal.returns-then-not-is_large-clause-ended
 returns-then-not-is_large-clause-ended g c =
-    let same : c.slot_of.result.items ≡ c.in_ok-numbers.numbers.items = c.slot_of.ensures ∙ c.deref.ensures.0 in
+    let same : c.slot_of.result.items ≡ c.place_bytes.new.taken.items = c.slot_of.ensures ∙ c.deref.ensures.0 in
     let small : is_large (length c.args.bytes.now) ≡ false = sym c.is_large.ensures ∙ c.if-not-is_large.true in
-    rw same (placed_small c.args.version c.args.base c.args.bytes.now c.args.map.now c.place_bytes.new.map c.args.journal.now c.place_bytes.new.journal c.in_ok-numbers.numbers.items small c.in_ok-numbers.ensures.ended)
+    rw same (placed_small c.args.version c.args.base c.args.bytes.now c.args.map.now c.place_bytes.new.map c.args.journal.now c.place_bytes.new.journal c.place_bytes.new.taken.items small c.in_ok-from.ensures.ended)
 
 pub loop-rest-init : goal.loop-rest-init
 loop-rest-init g c =
-    let laid = c.in_ok-numbers.ensures in
+    let laid = c.in_ok-from.ensures in
     rw c.new-slot.ensures (record {
-      numbers = c.in_ok-numbers.numbers.items;
+      numbers = c.place_bytes.new.taken.items;
       count = laid.ended.count;
-      indexing = indexing_none c.args.version c.args.base c.args.bytes.now c.as_slice-rest.result.now c.args.map.now c.place_bytes.new.map c.args.journal.now c.place_bytes.new.journal c.in_ok-numbers.numbers.items
+      indexing = indexing_none c.args.version c.args.base c.args.bytes.now c.as_slice-rest.result.now c.args.map.now c.place_bytes.new.map c.args.journal.now c.place_bytes.new.journal c.place_bytes.new.taken.items
           laid.ended laid.disk.run laid.disk.cause.stays laid.disk.first_fault c.as_slice-rest.ensures.value;
     })
 

@@ -1,29 +1,22 @@
-use Rattle.std.proofs.Common.{◌≡◌, Bool, true, false, not, sym, ◌∙◌, arith}
-use Rattle.std.specs.Bool.{beq}
-use Rattle.lis_blockmap.proofs.Laws.{bitmap_from_bits}
-use Rattle.lis_blockmap.proofs.Taken.{long}
+use Rattle.std.proofs.Common.{◌≡◌, ◌≢◌, ℕ, ◌+◌, ◌*◌, ◌<◌, Bool, List, Option, Some, None, IfSome, sym, ap, ◌∙◌, arith}
+use Rattle.lis_blockmap.specs.Bitmap.{is_taken, bitmap_bytes, has_bit, IsFirstDifference}
+use Rattle.lis_blockmap.proofs.Laws.{has_bit-bitmap_bytes}
 use Rattle.lis_blockmap.proofs.block_map.BlockMap.first_difference.Goals as goal
 
-pub overflow_mul-n : goal.overflow_mul-n
-overflow_mul-n c = omega (arith, long c.self.inside.rows c.self.inside.blocks c.args.self.now c.self.view_is, c.self.invariant.few, c.requires.some)
+-- the first bit that is not as it is written is the first one that is not as its data block
+module _ (n : ℕ) (bytes block : List ℕ) (taken : List Bool) (written : block ≡ bitmap_bytes n taken) where
+  at : (bit : ℕ) → bit < 32768 → has_bit block bit ≡ is_taken taken (32768 * n + bit)
+  at bit lt = ap (λ b. has_bit b bit) written ∙ has_bit-bitmap_bytes n taken bit lt
 
-pub overflow_add-n : goal.overflow_add-n
-overflow_add-n c = omega (arith, long c.self.inside.rows c.self.inside.blocks c.args.self.now c.self.view_is, c.self.invariant.few, c.requires.some, c.loop-bit-test.true)
+  as_written : (found : Option ℕ) → IfSome found (λ bit. bit < 32768) → IfSome found (λ bit. has_bit bytes bit ≢ has_bit block bit) → IfSome found (λ bit. (m : ℕ) → m < bit → has_bit bytes m ≡ has_bit block m) → IfSome found (λ bit. IsFirstDifference n bytes taken bit)
+  as_written None within here before = tt
+  as_written (Some bit) within here before = record {
+    within = within;
+    here = λ same. here (same ∙ sym (at bit within));
+    none_before = λ m lt. before m lt ∙ at m (omega (arith, lt, within));
+  }
 
-pub returns-then-has_bit-is_taken-clause-differs : goal.returns-then-has_bit-is_taken-clause-differs
-returns-then-has_bit-is_taken-clause-differs c = record {
-  within = c.loop-bit-test.true;
-  here = λ same. not_same c.has_bit.result c.is_taken.result c.if-has_bit-is_taken.true (c.has_bit.ensures ∙ (same ∙ sym c.is_taken.ensures));
-  none_before = c.loop-bit.invariant;
-}
-  where
-    not_same : (a b : Bool) → not (beq a b) ≡ true → a ≡ b → ⊥
-    not_same true true e same = absurd cc
-    not_same false false e same = absurd cc
-    not_same true false e same = absurd cc
-    not_same false true e same = absurd cc
-
-pub returns-clause-same : goal.returns-clause-same
-returns-clause-same c =
-    bitmap_from_bits c.args.n c.args.self.now c.args.bytes.now c.requires.whole (λ k lt. (c.type_inv.bytes k).fits)
-    (λ bit lt. c.loop-bit.invariant bit (omega (arith, c.loop-bit-test.false)))
+pub returns-clause-differs : goal.returns-clause-differs
+returns-clause-differs c =
+    let found = c.first_unlike.ensures in
+    as_written c.args.n c.args.bytes.now c.write_to.new.bytes c.args.self.now c.write_to.ensures c.first_unlike.result found.within found.here found.none_before
