@@ -10,7 +10,7 @@ import pytest
 
 from lisfs.client import PROGRAM, Ended, NotAReply, NotSent, Refused, shown_by
 from lisfs.dumps import opened
-from lisfs.image import limits_of
+from lisfs.limits import limits_of
 from lisfs.refusals import REFUSALS
 from lisfs.web import site
 from lisfs.web.image import Differs, Image

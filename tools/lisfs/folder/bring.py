@@ -36,7 +36,7 @@ from collections.abc import Callable, Iterator, Sequence
 from typing import BinaryIO, NamedTuple
 
 from lisfs.client import PROGRAM, Ended, NotAReply, Program, counts_in
-from lisfs.constants import BLOCK_LEN, MAX_ASSIGNED, MAX_BLOCKS, MAX_FILES, MAX_PROPS, MAX_WORD, SLOT_BLOCKS
+from lisfs.constants import MAX_ASSIGNED, MAX_WORD
 from lisfs.endings import folder_fault, quiet
 from lisfs.folder import walk
 from lisfs.folder.carrying import ROOT, Job, Sender, Step, Words, fitting, session_word
@@ -44,7 +44,7 @@ from lisfs.folder.entries import Entries, Entry, newest_first
 from lisfs.folder.forms import folder_value
 from lisfs.folder.options import at_least_one, day
 from lisfs.folder.report import Telling, counted, left_out
-from lisfs.image import FILE_BYTES
+from lisfs.limits import LARGEST, VERSIONS, Limits, Need, beyond, blocks_of, smallest
 from lisfs.refusals import cause_of
 from lisfs.showing import harmless, write_line
 from lisfs.words import head_of, is_assignable, mapped
@@ -83,7 +83,7 @@ class Command(NamedTuple):
 
 class Import:
     def __init__(self, words: Words, by_folder: bool, version: int, telling: Telling) -> None:
-        self.words, self.by_folder, self.version, self.largest, self.telling = words, by_folder, version, FILE_BYTES[version], telling
+        self.words, self.by_folder, self.version, self.largest, self.telling = words, by_folder, version, VERSIONS[version - 1].file_bytes, telling
         self.files: list[Taken] = []
         self.names: set[str] = set()
         self.declared: dict[bytes, None] = {}
@@ -203,7 +203,7 @@ class Import:
         out.flush()
 
     def report(self, largest: "Largest") -> None:
-        files = max(64, 1 << (max(1, self.taken) - 1).bit_length())
+        need = Need(self.taken, largest.known, self.blocks)
         self.tell(f"{self.taken} files taken, {self.telling.not_taken.total()} not taken, {self.renamed} named otherwise")
         if self.telling.not_taken:
             self.tell(f"not taken: {self.telling.causes()}")
@@ -216,8 +216,8 @@ class Import:
         left_out(self.tell, self.beyond, self.beyond_files, f"a file is given {MAX_ASSIGNED} at most")
         if self.entries:
             self.entries.tell_tags(self.tell)
-        if files > MAX_FILES or self.blocks > MAX_BLOCKS:
-            self.tell(f"no image holds all of it: it takes {self.taken} of {MAX_FILES} files and {self.blocks} of {MAX_BLOCKS} blocks; "
+        if beyond(need):
+            self.tell(f"no image holds all of it: it takes {self.taken} of {LARGEST.files} files and {self.blocks} of {LARGEST.blocks} blocks; "
                       "--newest N takes the newest files")
         elif largest.why:
             self.tell(f"the words that are derived from files are not counted, since {largest.why}")
@@ -226,9 +226,8 @@ class Import:
             more = "; ..." if len(largest.refused) > SOME else ""
             self.tell(f"no image holds all of it: the largest one refuses {counted(largest.refused.total(), 'line')}: {'; '.join(some)}{more}; "
                       "--newest N takes the newest files")
-        else:
-            limits = [str(files), str(max(64, -(-largest.known // 64) * 64)), str(max(1, self.blocks))] + largest.version
-            self.tell(f"an empty image has room for it from these limits on: {' '.join(limits)}")
+        elif limits := smallest(need):
+            self.tell(f"an empty image has room for it from these limits on: {' '.join(limits._replace(version=self.version).make())}")
 
 
 class Session(NamedTuple):
@@ -243,7 +242,7 @@ class Largest:
     and `refused` how many lines it refused. `why` says why these can't be counted."""
 
     def __init__(self, folder: str, version: int) -> None:
-        self.version, self.known = ["v2"] if version == 2 else [], 0
+        self.known, self._limits = 0, Limits(LARGEST.files, LARGEST.words, LARGEST.blocks, version)
         # How many lines it refused for each cause, and the words that it has declared.
         self.refused: collections.Counter[str] = collections.Counter()
         self._declared: set[bytes] = set()
@@ -273,7 +272,7 @@ class Largest:
             self.why = str(error)
 
     def _begin(self) -> None:
-        Program([PROGRAM, "make", self._image, *map(str, (MAX_FILES, MAX_PROPS, MAX_BLOCKS)), *self.version]).close()
+        Program([PROGRAM, "make", self._image, *self._limits.make()]).close()
         program = Program([PROGRAM, session_word(), self._image])
         self._session = Session(program, Sender(program))
 
@@ -288,11 +287,6 @@ class Largest:
         session.sender.finish()
         self.known = counts_in(session.program.stat().body)["known"]
         session.program.close()
-
-
-def blocks_of(size: int) -> int:
-    needed = -(-size // BLOCK_LEN)
-    return needed + 1 if needed > SLOT_BLOCKS else needed
 
 
 @quiet

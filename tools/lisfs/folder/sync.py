@@ -73,7 +73,7 @@ from collections.abc import Sequence
 from fractions import Fraction
 from typing import NoReturn
 
-from lisfs import opening
+from lisfs import making, opening
 from lisfs.client import PROGRAM, Ended, Locked, NotAReply, Program, missing, socket_of
 from lisfs.constants import MAX_ASSIGNED, MAX_DERIVED, MAX_DESCRIPTION, MAX_WORD
 from lisfs.dumps import Dump, NotADump
@@ -81,14 +81,15 @@ from lisfs.endings import folder_fault, quiet
 from lisfs.folder.cache import Cache, Nothing, Remembered
 from lisfs.folder.carrying import Carrying, NoRoom, Sender, session_word
 from lisfs.folder.changes import MARKER, Changes, Done, Side, Wishes, folder_words
-from lisfs.folder.entries import Entries
+from lisfs.folder.entries import Entries, Entry
 from lisfs.folder.forms import folder_value
 from lisfs.folder.memory import Memory, Records
 from lisfs.folder.options import at_least_one, day, part_or_number
 from lisfs.folder.private import private_copy
 from lisfs.folder.report import Telling, counted, left_out
-from lisfs.folder.room import RESERVE, Room, kept_free
-from lisfs.image import limits_of
+from lisfs.folder.room import RESERVE, Room, beside_free, kept_free, needed
+from lisfs.limits import LARGEST, TIMES, Limits, beyond, limits_of, roomy
+from lisfs.making import kept_names
 from lisfs.showing import harmless, write_line
 from lisfs.words import PLAIN_FORM, PLAIN_RUN
 
@@ -155,14 +156,24 @@ class Sync:
         self.entries: Entries | None = None
         self.plan: Changes | None = None
         self.carrying: Carrying | None = None
+        # Why an image that was made has its limits.
+        self.why = ""
 
     def run(self) -> None:
+        if what := missing():
+            raise Failed(what)
         with contextlib.ExitStack() as stack:
-            if self.words.dry_run:
-                self.telling.clear()
-                self.path = stack.enter_context(private_copy(self.image))
-            room = self.look()
-            entries, remembered = self.read(room.limits.file_bytes)
+            if is_missing(self.image):
+                # Which image is needed depends on the folder.
+                entries, remembered = self.read(LARGEST.file_bytes)
+                self.make(self.choose(entries.all), stack)
+                room = self.look()
+            else:
+                if self.words.dry_run:
+                    self.telling.clear()
+                    self.path = stack.enter_context(private_copy(self.image))
+                room = self.look()
+                entries, remembered = self.read(room.limits.file_bytes)
             if not self.words.dry_run:
                 remembered.save()
             self.telling.clear()
@@ -174,17 +185,49 @@ class Sync:
 
     def look(self) -> Room:
         """Checks that the image can be opened, before anything takes long, and finds what it has room for."""
-        if what := missing():
-            raise Failed(what)
         opening.tried("sync", self.path)
         try:
-            limits = limits_of(self.path)
+            # A line names the image, also if a copy is opened.
+            limits = limits_of(self.path)._replace(image=self.image)
         except (OSError, struct.error) as error:
             raise Failed(f"{self.image}: {error}") from None
+        return Room(limits, self.reserve(limits))
+
+    def reserve(self, limits: Limits) -> int:
+        """How many words of the image are kept free."""
         reserve = kept_free(self.words.reserve, limits.words)
         if reserve >= limits.words:
             raise Failed(f"--reserve {reserve}: {self.image} has room for {limits.words} known words in all")
-        return Room(limits, reserve)
+        return reserve
+
+    def choose(self, entries: Sequence[Entry]) -> Limits:
+        """The limits of an image for the folder, which has room for it three times over, or as much as an image can have."""
+        files = 0
+
+        def looked() -> None:
+            nonlocal files
+            files += 1
+            self.telling.progress(lambda: f"words of {counted(files, 'file')} counted")
+
+        need = needed(entries, self.marker, self.words.lean, looked)
+        self.telling.clear()
+        if lacks := beyond(need):
+            raise Failed(f"nothing was made: {harmless(self.folder)} has {'; '.join(map(str, lacks))}: --newest N takes the newest, and several images "
+                         "hold more (docs/guide/other-machines.md)")
+        times = need.times(TIMES)
+        wanted = times._replace(words=beside_free(times.words, self.words.reserve))
+        limits = roomy(wanted)
+        self.reserve(limits)
+        self.why = f"{'as near as an image can be to ' if beyond(wanted) else ''}three times the {need} of {harmless(self.folder)}"
+        return limits
+
+    def make(self, limits: Limits, stack: contextlib.ExitStack) -> None:
+        """Makes the image that is missing; for a dry run elsewhere, until it ends."""
+        if self.words.dry_run:
+            import tempfile
+            self.path = os.path.join(stack.enter_context(tempfile.TemporaryDirectory(prefix="lisfs-")), "image")
+        making.make(self.path, limits)
+        self.telling.tell(f"{'would make' if self.words.dry_run else 'made'} {harmless(self.image)} for {limits}, of version {limits.version}: {self.why}")
 
     def read(self, largest: int) -> tuple[Entries, Cache]:
         """Looks at the files of the folder."""
@@ -348,11 +391,17 @@ class Sync:
         return not (carrying and (carrying.without or carrying.too_many or carrying.lean or carrying.is_forgetful))
 
 
+def is_missing(image: str) -> bool:
+    """Whether there is no image. A link that leads nowhere may lead to a disk that is not mounted, and a socket to a server that has the image."""
+    return not os.path.lexists(image) and not os.path.lexists(socket_of(image))
+
+
 def own_files(image: str) -> list[os.stat_result]:
-    """The image, and its socket if it is served: neither is one of the folder's files."""
-    found = [os.stat(image)]
-    with contextlib.suppress(OSError):
-        found.append(os.lstat(socket_of(image)))
+    """The image, its socket if it is served, and those from before it was enlarged: none of them is one of the folder's files."""
+    found: list[os.stat_result] = []
+    for path in (image, socket_of(image), *kept_names(image)):
+        with contextlib.suppress(OSError):
+            found.append(os.stat(path) if path == image else os.lstat(path))
     return found
 
 

@@ -14,6 +14,7 @@ from lisfs.constants import IN_USE, NO_FILE_HERE, REFUSAL_WORDS, UNKNOWN_PROPERT
 from lisfs.dumps import Axiom, Dump
 from lisfs.index import File
 from lisfs.formulas import Instead, replaced, without, words_in
+from lisfs.limits import Limits
 from lisfs.refusals import MEANT, about
 from lisfs.web.places import Place
 from lisfs.words import head_of, is_head, is_plain, is_test, is_word
@@ -71,7 +72,7 @@ def text(data: bytes) -> str:
 
 
 class Image(image.Image[File]):
-    def __init__(self, program: Program, dump: Dump, limits: image.Limits) -> None:
+    def __init__(self, program: Program, dump: Dump, limits: Limits) -> None:
         super().__init__(program, dump, limits)
         self.axioms = set(dump.axioms)
         self.last: Undo | None = None

@@ -16,7 +16,7 @@ from typing import Any, TypeAlias
 from lisfs.client import Ended, End
 from lisfs.dumps import NotADump, opened
 from lisfs.formulas import NotAFormula, TooLarge
-from lisfs.image import limits_of
+from lisfs.limits import limits_of
 from lisfs.mount import attach, kernel
 from lisfs.mount.image import Image
 from lisfs.mount.kernel import Connection
