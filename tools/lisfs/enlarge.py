@@ -23,7 +23,7 @@ import signal
 import stat
 import sys
 import time
-from collections.abc import Sequence
+from collections.abc import Iterator, Sequence
 from typing import NoReturn
 
 from lisfs import client
@@ -164,10 +164,20 @@ def enlarge(image: str, numbers: Sequence[str], done: Done) -> None:
         with held(path) as old:
             if times_of(path) != before:
                 raise Failed("another program has changed it meanwhile; run this again")
-            signal.pthread_sigmask(signal.SIG_BLOCK, (*STOPS, signal.SIGINT))
-            done.line = f"from {limits} to {wished}; the old image is {swap(path, new.name, old)} until you remove it"
-            sync_folder(os.path.dirname(path))
-            wait_for_others(old)
+            with without_stops():
+                done.line = f"from {limits} to {wished}; the old image is {swap(path, new.name, old)} until you remove it"
+                sync_folder(os.path.dirname(path))
+                wait_for_others(old)
+
+
+@contextlib.contextmanager
+def without_stops() -> Iterator[None]:
+    """A signal that ends this program does so only after the block."""
+    before = signal.pthread_sigmask(signal.SIG_BLOCK, (*STOPS, signal.SIGINT))
+    try:
+        yield
+    finally:
+        signal.pthread_sigmask(signal.SIG_SETMASK, before)
 
 
 def cause(error: BaseException, image: str) -> str:
