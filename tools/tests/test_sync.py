@@ -206,7 +206,7 @@ def test_no_room_for_files(hundred):
     make("files", ("64", "1024", "512"))
     status, out, error = sync("--as", "m", "files", "mail")
     told = ["not taken: 36 no room for more files",
-            "limit reached: 64 files: --newest 64 keeps the newest; a larger image has more room (docs/guide/backup.md)"]
+            "limit reached: 64 files, and 100 are needed: --newest 64 keeps the newest; tools/enlarge files 128 1024 512 makes room"]
     assert (status, out, error) == (1, ["sync:m: 64 new, 0 as they were", *told], ""), "no room for files"
     assert sync("--as", "m", "files", "mail")[1] == ["sync:m: nothing changed, 64 as they were", *told], "again"
 
@@ -292,7 +292,7 @@ def test_wrong_use(with_a_file, words):
     assert sync(*words)[0] == 2, f"wrong use: {words}"
 
 
-@pytest.mark.parametrize("name, told", (("nosuch", "No such file"), ("top/f", "image too short"), ("top", "Is a directory")))
+@pytest.mark.parametrize("name, told", (("nosuch/image", "No such file"), ("top/f", "image too short"), ("top", "Is a directory")))
 def test_no_image(with_a_file, name, told):
     status, out, error = sync(name, "top")
     assert status == 1 and out == [] and told in error and error.startswith("sync: ") and error.count("\n") == 1, (

@@ -12,7 +12,6 @@ from support.images import bytes_of, dump, session, written
 from support.syncing import held, mail, maildir, make, sync
 
 pytestmark = pytest.mark.usefixtures("program")
-LARGER = "a larger image has more room (docs/guide/backup.md)"
 DAY = 86_400
 
 
@@ -126,7 +125,8 @@ def test_no_room_for_files():
     maildir("mail")
     for number in range(100):
         written(f"mail/cur/{number * 37 % 100}:2,", sent(number))
-    told = ["not taken: 36 no room for more files", f"limit reached: 64 files: --newest 64 keeps the newest; {LARGER}"]
+    told = ["not taken: 36 no room for more files",
+            "limit reached: 64 files, and 100 are needed: --newest 64 keeps the newest; tools/enlarge image 128 8192 512 makes room"]
     assert sync("--as", "m", "image", "mail") == (1, ["sync:m: 64 new, 0 as they were", *told], ""), "what is told"
     wanted = {f"subject-number{number}" for number in range(36, 100)}
     assert {name.rpartition("-")[0] for name in held()} == wanted, "the newest"
@@ -146,8 +146,8 @@ def test_no_room_for_words():
         written(f"mail/cur/{number}:2,", sent(number, f"Subject one{number} two{number}", sender=f"Person P{number} <p{number}@example.org>"))
     status, out, error = sync("--as", "m", "image", "mail")
     assert (status, out[0], error) == (1, "sync:m: 100 new, 0 as they were", ""), "all come in"
-    limit = re.fullmatch(r"limit reached: 512 known words, 25 of them kept free: --lean takes fewer words for each new mail and source; "
-                         r"--newest ([0-9]+) keeps the newest; --reserve 0 keeps none free; a larger image .*", out[-1])
+    limit = re.fullmatch(r"limit reached: 512 known words, 25 of them kept free, and [0-9,]+ are needed: --lean takes fewer words for each new mail and "
+                         r"source; --newest ([0-9]+) keeps the newest; --reserve 0 keeps none free; tools/enlarge image 256 [0-9]+ 512 makes room", out[-1])
     assert limit, out
     assert known() == 512 - 25, "each word that there is room for"
     whole = int(limit[1])
@@ -174,7 +174,7 @@ def test_reserve():
     for number in range(40):
         dated(f"top/{number}/f", number + 1)
     status, out, _ = sync("--as", "t", "--reserve", "1/2", "image", "top")
-    assert status == 1 and known() == 32 and "limit reached: 64 known words, 32 of them kept free: " in out[-1], (out, known())
+    assert status == 1 and known() == 32 and "limit reached: 64 known words, 32 of them kept free, and 78 are needed: " in out[-1], (out, known())
     assert "--lean" not in out[-1], "which no file here needs"
     assert held()["39+f"] == {"sync:t", "in:39"} and held()["0+f"] == {"sync:t"}, "the newest have their words"
     assert sync("--as", "t", "--reserve", "0", "image", "top")[:2] == (0, ["sync:t: 14 with other words, 26 as they were"]), "and then all"
@@ -239,7 +239,7 @@ def test_room_and_bytes():
         dated(f"top/f{number}", number + 1, bytes(size))
     assert sync("--as", "t", "image", "top")[:2] == (
         1, ["sync:t: 3 new, 0 as they were", "not taken: 2 no room for its bytes",
-            f"limit reached: 4 blocks: --newest 1 keeps the newest; {LARGER}"]), "what is told"
+            "limit reached: 4 blocks, and 8 are needed: --newest 1 keeps the newest; tools/enlarge image 64 64 8 makes room"]), "what is told"
     assert sorted(held()) == ["f1", "f2", "f4"], "which come in"
 
 
@@ -252,6 +252,6 @@ def test_dry_run_tells_what_has_no_room():
     status, out, _ = sync("--as", "t", "--dry-run", "image", "top")
     assert (status, out[-3:]) == (1, [
         "sync:t: would be 64 new, 0 as they were", "not taken: 6 no room for more files",
-        f"limit reached: 64 files: --newest 64 keeps the newest; {LARGER}"]), "the same as a run"
+        "limit reached: 64 files, and 70 are needed: --newest 64 keeps the newest; tools/enlarge image 128 64 64 makes room"]), "the same as a run"
     with open("image", "rb") as file:
         assert file.read() == before, "and no byte changes"
