@@ -210,9 +210,19 @@ def command(limits: Limits) -> str:
     return f"tools/enlarge {shlex.quote(limits.image)} {limits.files} {limits.words} {limits.blocks}"
 
 
-def told_full(number: int, limits: Limits, more: int = 0) -> tuple[str, str]:
-    """What is full, by a refusal of a full image, and what helps. If it is known how many `more` of what is full are needed, it has room for these."""
+class Full(NamedTuple):
+    """What a full image has at most, and a clause for what helps."""
+
+    most: str
+    helps: str
+
+
+def full(number: int, limits: Limits, more: int = 0) -> Full | None:
+    """What a refusal says that is about a full image; None for another one. If it is known how many `more` of what is full are needed, the command
+    that helps makes room for these."""
+    if number not in REACHED:
+        return None
     name, what = REACHED[number]
     count = getattr(limits, name)
     larger = enlarged(limits, {name: count + more if more else 0})
-    return f"{count:,} {what} are the most of this image", f"`{command(larger)}` makes room once nothing has it open" if larger else SEVERAL
+    return Full(f"at most {count:,} {what}", f"`{command(larger)}` makes room once no program has it open" if larger else SEVERAL)

@@ -12,7 +12,7 @@ from lisfs.constants import NO_AXIOM_ROOM, NO_FILE_ROOM, NO_PROPERTY_ROOM, NO_SP
 from lisfs.folder import music
 from lisfs.folder.room import beside_free
 from lisfs.folder.options import part_or_number
-from lisfs.limits import Limits, Need, NoLimits, beyond, blocks_of, doubled, enlarged, limits_of, roomy, smallest, told_full
+from lisfs.limits import Limits, Need, NoLimits, beyond, blocks_of, doubled, enlarged, full, limits_of, roomy, smallest
 from support import TOP
 from support.images import dump, make, session, written
 from support.syncing import held, mail, maildir, sync
@@ -66,12 +66,12 @@ def test_enlarged():
 
 
 @pytest.mark.parametrize("number, more, said", (
-    (NO_FILE_ROOM, 0, ("64 files are the most of this image", "`tools/enlarge 'a b' 128 128 3000` makes room once nothing has it open")),
-    (NO_PROPERTY_ROOM, 200, ("128 known words are the most of this image", "`tools/enlarge 'a b' 64 384 3000` makes room once nothing has it open")),
-    (NO_AXIOM_ROOM, 0, ("128 axioms are the most of this image", "`tools/enlarge 'a b' 64 256 3000` makes room once nothing has it open")),
-    (NO_SPACE, 40_000, ("3,000 blocks are the most of this image", "no image has more: use several (docs/guide/other-machines.md)"))))
-def test_told_full(number, more, said):
-    assert told_full(number, Limits(64, 128, 3_000, 2, "a b"), more) == said
+    (NO_FILE_ROOM, 0, ("at most 64 files", "`tools/enlarge 'a b' 128 128 3000` makes room once no program has it open")),
+    (NO_PROPERTY_ROOM, 200, ("at most 128 known words", "`tools/enlarge 'a b' 64 384 3000` makes room once no program has it open")),
+    (NO_AXIOM_ROOM, 0, ("at most 128 axioms", "`tools/enlarge 'a b' 64 256 3000` makes room once no program has it open")),
+    (NO_SPACE, 40_000, ("at most 3,000 blocks", "no image has more: use several (docs/guide/other-machines.md)"))))
+def test_full(number, more, said):
+    assert full(number, Limits(64, 128, 3_000, 2, "a b"), more) == said
 
 
 @pytest.mark.parametrize("size", (0, 1, 4_096, 4_097, 65_536, 65_537, 1_048_576))

@@ -8,7 +8,6 @@ from lisfs.constants import MAX_FORMULA
 from lisfs.formulas import words_in
 from lisfs.index import File
 from lisfs.listings import TITLES, groups_of, within
-from lisfs.refusals import sentence_about
 
 from lisfs.web.contents import SHOWN, Mail, cut, mail_of, text_of
 from lisfs.web.image import Image, View
@@ -166,7 +165,7 @@ class Pages:
     def refused(self, made: Retagged, back: Link) -> str:
         """A page that says for which files a change was refused."""
         done = f"{counted(len(made.done), 'file')} changed. " if made.done else ""
-        rows = [(change.name, sentence_about(refused.number, "mv", self.image.about(refused))) for change, refused in made.refused]
+        rows = [(change.name, self.image.sentence(refused, "mv")) for change, refused in made.refused]
         return self.whole("refused.html", "Refused", told=f"{done}Refused: {counted(len(rows), 'file')}.", rows=rows, back=address(back.page, **back.given))
 
     def missing(self, words: list[bytes]) -> str | None:
