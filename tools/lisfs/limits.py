@@ -23,7 +23,7 @@ Limit: TypeAlias = Literal["files", "words", "blocks"]
 LIMITS: tuple[Limit, ...] = ("files", "words", "blocks")
 # The limit that each refusal of a full image is about, and what of it is full.
 REACHED: dict[int, tuple[Limit, str]] = {
-    NO_FILE_ROOM: ("files", "files"), NO_PROPERTY_ROOM: ("words", "known words"), NO_AXIOM_ROOM: ("words", "axioms"), NO_SPACE: ("blocks", "blocks")}
+    NO_FILE_ROOM: ("files", "file"), NO_PROPERTY_ROOM: ("words", "known word"), NO_AXIOM_ROOM: ("words", "axiom"), NO_SPACE: ("blocks", "block")}
 SEVERAL = "no image has more: use several (docs/guide/other-machines.md)"
 
 
@@ -225,4 +225,4 @@ def full(number: int, limits: Limits, more: int = 0) -> Full | None:
     name, what = REACHED[number]
     count = getattr(limits, name)
     larger = enlarged(limits, {name: count + more if more else 0})
-    return Full(f"at most {count:,} {what}", f"`{command(larger)}` makes room once no program has it open" if larger else SEVERAL)
+    return Full(f"at most {count:,} {what}{'' if count == 1 else 's'}", f"`{command(larger)}` makes room once no program has it open" if larger else SEVERAL)
