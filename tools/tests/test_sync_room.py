@@ -252,6 +252,6 @@ def test_dry_run_tells_what_has_no_room():
     status, out, _ = sync("--as", "t", "--dry-run", "image", "top")
     assert (status, out[-3:]) == (1, [
         "sync:t: would be 64 new, 0 as they were", "not taken: 6 no room for more files",
-        "limit reached: 64 files, and 70 are needed: --newest 64 keeps the newest; tools/enlarge image 128 64 64 makes room"]), "the same as a run"
+        "limit reached: 64 files, and 70 are needed: --newest 64 keeps the newest; tools/enlarge image 128 64 128 makes room"]), "the same as a run"
     with open("image", "rb") as file:
         assert file.read() == before, "and no byte changes"

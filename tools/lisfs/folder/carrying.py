@@ -19,7 +19,7 @@ from lisfs.folder import memory, names, walk
 from lisfs.folder.changes import MARKER, Change, Changes, Done
 from lisfs.folder.entries import Entry, newest_first
 from lisfs.folder.room import Room
-from lisfs.limits import Limit, blocks_of
+from lisfs.limits import Limit, Need, blocks_of
 from lisfs.refusals import REFUSALS, cause_of, named
 from lisfs.words import head_of, stem_of
 
@@ -421,21 +421,15 @@ class Carrying:
             newest += not entry.found.problem
         others = len(self.plan.dump.files) - self.plan.own + self.plan.staying
         can_be_lean = not self.plan.is_lean and any(entry.is_mail or derived.has_many(os.fsencode(entry.found.key)) for _, entry in entries)
-        return self.room.advice(self._short(), self.room.limits.files - others, newest, can_be_lean)
+        lacks: dict[Limit, bool] = {"files": self.lacks_files, "words": self.lacks_words, "blocks": self.lacks_blocks}
+        return self.room.advice([name for name, is_short in lacks.items() if is_short], self._needed(), self.room.limits.files - others, newest, can_be_lean)
 
-    def _short(self) -> dict[Limit, int]:
-        """The limits that were reached, each with how much the image would need for all files of the folder and all others in it."""
+    def _needed(self) -> Need:
+        """How much the image would need for all files of the folder and all others in it, as far as that is known."""
         plan, away = self.plan, set(self.plan.away)
         sizes = [entry.found.size or 0 for _, entry in plan.keyed if not entry.found.problem and not entry.is_older and entry.found.path not in away]
         sizes += [size for name, (size, _) in plan.dump.files.items() if name not in plan.kept and name not in plan.gone_keys]
-        found: dict[Limit, int] = {}
-        if self.lacks_files:
-            found["files"] = len(sizes)
-        if self.lacks_words:
-            found["words"] = self.room.words_needed()
-        if self.lacks_blocks:
-            found["blocks"] = sum(map(blocks_of, sizes))
-        return found
+        return Need(len(sizes), self.room.words_needed(), sum(map(blocks_of, sizes)))
 
 
 def most_words(change: Change) -> int:

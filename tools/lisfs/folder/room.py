@@ -105,9 +105,10 @@ class Room:
         """How many words the image would have to have room for, at least, those that are kept free among them; 0 if that is not known."""
         return 0 if self._known is None else len(self._known | self._lacking) + self.reserve
 
-    def advice(self, short: Mapping[Limit, int], files: int, newest: int, can_be_lean: bool) -> list[str]:
-        """A line for each limit that was reached. `short` has how much is needed of each, or 0 if that is not known. The newest `newest` files are
+    def advice(self, reached: Sequence[Limit], need: Need, files: int, newest: int, can_be_lean: bool) -> list[str]:
+        """A line for each limit that was reached. `need` has how much is needed of each, or 0 if that is not known. The newest `newest` files are
         complete, and the image has room for `files` files of the folder."""
+        counts: dict[Limit, int] = {"files": need.files, "words": need.words, "blocks": need.blocks}
         ways: dict[Limit, list[str]] = {"files": [keeps(files)], "words": [keeps(newest)], "blocks": [keeps(newest)]}
         limits = {"files": f"{self.limits.files:,} files", "words": f"{self.limits.words:,} known words", "blocks": f"{self.limits.blocks:,} blocks"}
         if can_be_lean:
@@ -115,10 +116,11 @@ class Room:
         if self.reserve:
             ways["words"].append("--reserve 0 keeps none free")
             limits["words"] += f", {self.reserve:,} of them kept free"
-        larger = enlarged(self.limits, short)
+        # The image must have room for all, also where no limit was reached yet.
+        larger = enlarged(self.limits, {name: count for name, count in counts.items() if name in reached or count > getattr(self.limits, name)})
         helps = f"{command(larger)} makes room" if larger else SEVERAL
-        return [f"limit reached: {limits[name]}{f', and {count:,} are needed' if count else ''}: {'; '.join([*ways[name], helps])}"
-                for name, count in short.items()]
+        return [f"limit reached: {limits[name]}{f', and {counts[name]:,} are needed' if counts[name] else ''}: {'; '.join([*ways[name], helps])}"
+                for name in reached]
 
 
 def keeps(newest: int) -> str:
