@@ -6,7 +6,6 @@ import re
 import shlex
 import struct
 from collections.abc import Callable, Mapping, Sequence
-from fractions import Fraction
 from typing import Literal, NamedTuple, TypeAlias
 
 from lisfs.constants import (
@@ -159,9 +158,9 @@ class NoLimits(ValueError):
 
 def doubled(limits: Limits, used: Need) -> Limits:
     """Limits with twice as much of all that is more than half used, or else of that which is used most. Raises `NoLimits`."""
-    parts = {name: Fraction(getattr(used, name), getattr(limits, name)) for name in LIMITS}
-    full = [name for name, part in parts.items() if part > Fraction(1, 2) or part == max(parts.values())]
-    found = enlarged(limits, {name: 0 for name in full if getattr(limits, name) < getattr(LARGEST, name)})
+    parts = {name: getattr(used, name) / getattr(limits, name) for name in LIMITS}
+    wanted = [name for name, part in parts.items() if part > 1 / 2 or part == max(parts.values())]
+    found = enlarged(limits, {name: 0 for name in wanted if getattr(limits, name) < getattr(LARGEST, name)})
     if found is None or found == limits:
         raise NoLimits(f"it has {limits}, and " + SEVERAL)
     return found

@@ -1,11 +1,8 @@
 """Makes a file at a path whole or not at all: under another name beside it, from which it comes to its path in one step."""
-from __future__ import annotations
-
 import contextlib
 import fcntl
 import glob
 import os
-import secrets
 import signal
 import stat
 from collections.abc import Iterator
@@ -35,7 +32,7 @@ def aside(path: str, mode: int) -> Iterator[Aside]:
     signal.signal(signal.SIGIO, signal.SIG_IGN)
     for left in glob.glob(glob.escape(path + ASIDE) + "[0-9a-f]" * DIGITS):
         remove_left(left)
-    name = path + ASIDE + secrets.token_hex(DIGITS // 2)
+    name = path + ASIDE + os.urandom(DIGITS // 2).hex()
     descriptor = os.open(name, os.O_RDWR | os.O_CREAT | os.O_EXCL | os.O_NOFOLLOW | os.O_CLOEXEC, mode)
     try:
         yield Aside(name, descriptor)

@@ -10,7 +10,7 @@
 - `changes`: what is new, changed or gone, compared with what an image holds.
 - `carrying`: the commands that make the changes, many sent ahead of their replies.
 - `memory`: what earlier runs brought in, to distinguish a change of the image from one of the folder.
-- `room`: how many files and words an image has room for, and what helps if they are too few.
+- `room`: how many files and words an image has room for, what helps if they are too few, and what a folder needs in an image of its own.
 - `private`: a copy of an image, on which a dry run works.
 - `options`: numbers and dates of the command line.
 - `report`: counts, lines, and the one line of progress.
