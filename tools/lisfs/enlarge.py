@@ -17,7 +17,6 @@ from __future__ import annotations
 
 import argparse
 import contextlib
-import errno
 import os
 import signal
 import stat
@@ -32,7 +31,7 @@ from lisfs.dumps import settled, times_of
 from lisfs.endings import quiet
 from lisfs.endings import cause_of as cause_of_end
 from lisfs.limits import LIMITS, Limits, Need, NoLimits, chosen, doubled, limits_of
-from lisfs.making import KEPT, Aside, aside, is_open_elsewhere, kept_names
+from lisfs.making import KEPT, Aside, aside, is_open_elsewhere, kept_names, name_again
 from lisfs.own import sync_folder
 from lisfs.showing import write_line
 
@@ -41,8 +40,6 @@ STOPS = (signal.SIGTERM, signal.SIGHUP)
 PIECE = 65_536
 # How long it waits until nobody has the old image open any more, in seconds, and between two looks.
 PATIENCE, PAUSE = 10, 0.01
-# What a file system says that has no hard links.
-NO_LINKS = (errno.EPERM, errno.EOPNOTSUPP, errno.EMLINK, errno.ENOSYS)
 
 
 class Failed(Exception):
@@ -115,7 +112,8 @@ def swap(path: str, new: str, old: int) -> str:
     while os.path.lexists(kept):
         number += 1
         kept = f"{path}{KEPT}-{number}"
-    is_link = keep(path, kept)
+    # With both names, something whole is at the path at any moment.
+    is_link = name_again(path, kept)
     try:
         os.rename(new, path)
     except OSError:
@@ -125,18 +123,6 @@ def swap(path: str, new: str, old: int) -> str:
             os.rename(kept, path)
         raise
     return kept
-
-
-def keep(path: str, kept: str) -> bool:
-    """Gives an image another name. Returns whether it keeps the old one too, so that something whole is there at any moment."""
-    try:
-        os.link(path, kept)
-    except OSError as error:
-        if error.errno not in NO_LINKS:
-            raise
-        os.rename(path, kept)
-        return False
-    return True
 
 
 def wait_for_others(old: int) -> None:

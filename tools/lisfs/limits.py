@@ -45,6 +45,15 @@ VERSIONS = (
 LARGEST = VERSIONS[-1]
 
 
+def told(files: int, words: int, blocks: int) -> str:
+    """The three numbers in a line."""
+    return f"{counted(files, 'file')}, {counted(words, 'word')} and {counted(blocks, 'block')}"
+
+
+def counted(count: int, word: str) -> str:
+    return f"{count:,} {word}{'' if count == 1 else 's'}"
+
+
 class Limits(NamedTuple):
     """The most files, known words and blocks of an image, its version, and its path, for a line that names it."""
 
@@ -69,7 +78,7 @@ class Limits(NamedTuple):
         return [*map(str, (self.files, self.words, self.blocks)), *self.most.make]
 
     def __str__(self) -> str:
-        return f"{self.files:,} files, {self.words:,} words and {self.blocks:,} blocks"
+        return told(self.files, self.words, self.blocks)
 
 
 class Need(NamedTuple):
@@ -84,8 +93,7 @@ class Need(NamedTuple):
         return Need(*(count * number for number in self))
 
     def __str__(self) -> str:
-        parts = ((self.files, "file"), (self.words, "word"), (self.blocks, "block"))
-        return "{}, {} and {}".format(*(f"{count:,} {word}{'' if count == 1 else 's'}" for count, word in parts))
+        return told(self.files, self.words, self.blocks)
 
 
 class Beyond(NamedTuple):
@@ -224,4 +232,4 @@ def full(number: int, limits: Limits, more: int = 0) -> Full | None:
     name, what = REACHED[number]
     count = getattr(limits, name)
     larger = enlarged(limits, {name: count + more if more else 0})
-    return Full(f"at most {count:,} {what}{'' if count == 1 else 's'}", f"`{command(larger)}` makes room once no program has it open" if larger else SEVERAL)
+    return Full(f"at most {counted(count, what)}", f"`{command(larger)}` makes room once no program has it open" if larger else SEVERAL)

@@ -1,5 +1,6 @@
 """Makes a file at a path whole or not at all: under another name beside it, from which it comes to its path in one step."""
 import contextlib
+import errno
 import fcntl
 import glob
 import os
@@ -16,6 +17,8 @@ from lisfs.own import sync_folder
 ASIDE, DIGITS = ".new-", 8
 # What follows the path in the name of an image that was enlarged, before a number if there are several.
 KEPT = ".before-enlarging"
+# What a file system says that has no hard links.
+NO_LINKS = (errno.EPERM, errno.EOPNOTSUPP, errno.EMLINK, errno.ENOSYS)
 
 
 class Aside(NamedTuple):
@@ -66,11 +69,25 @@ def is_open_elsewhere(descriptor: int) -> bool:
     return False
 
 
+def name_again(path: str, other: str) -> bool:
+    """Gives a file another name, which nothing has. Returns whether it keeps the old one too, as it does if its file system has hard links."""
+    try:
+        os.link(path, other)
+    except OSError as error:
+        if error.errno not in NO_LINKS:
+            raise
+        if os.path.lexists(other):
+            raise FileExistsError(errno.EEXIST, os.strerror(errno.EEXIST), other) from None
+        os.rename(path, other)
+        return False
+    return True
+
+
 def make(path: str, limits: Limits) -> None:
     """Makes an empty image at a path where nothing is, whole and on the medium. Raises `FileExistsError` if something is there by then."""
     with aside(path, 0o666) as new:
         Program([PROGRAM, "make", new.name, *limits.make()]).close()
-        os.link(new.name, path)
+        name_again(new.name, path)
     sync_folder(os.path.dirname(path))
 
 

@@ -124,10 +124,10 @@ def test_no_larger_one(monkeypatch):
     monkeypatch.setattr(limits_module, "LARGEST", limits_module.LARGEST._replace(blocks=8))
     with session() as program:
         program.add(b"more", bytes(16_384))
-    before = content("image")
+    before = dump()
     with pytest.raises(limits_module.NoLimits, match="it has 64 files, 64 words and 8 blocks, and no image has more: use several"):
         enlarge.enlarge("image", [], enlarge.Done())
-    assert dump() and limits() == (64, 64, 8, 1) and os.listdir() == ["image"] and len(before) == os.path.getsize("image")
+    assert (dump(), limits(), os.listdir()) == (before, (64, 64, 8, 1), ["image"])
 
 
 @pytest.mark.parametrize("words", ((), ("image", "64"), ("image", "64", "64"), ("image", "64", "64", "8", "v2"), ("--nope", "image")))
@@ -279,6 +279,12 @@ def test_without_hard_links(monkeypatch):
     with pytest.raises(OSError):
         enlarge.enlarge("image", [], enlarge.Done())
     assert (limits(), dump(), sorted(os.listdir())) == ((64, 64, 8, 1), before, ["image", KEPT])
+    # `tools/sync` makes an image there too, and overwrites nothing.
+    monkeypatch.setattr(os, "rename", real)
+    making.make("new", limits_of("image"))
+    assert limits("new") == limits() and dump("new") == b""
+    with pytest.raises(FileExistsError):
+        making.make("new", limits_of("image"))
 
 
 def test_who_opened_the_old_image(monkeypatch):

@@ -2,6 +2,9 @@
 
 usage: tools/sync [--as NAME] [--without PATTERN].. [--since DATE] [--newest N] [--reserve NUMBER] [--flat] [--lean] [--dry-run] [--verbose] [--all-gone] [--no-cache] [--ours[=PATH] | --theirs[=PATH]].. [--restore] IMAGE FOLDER
 
+If IMAGE is missing, it is made: the smallest image that has room for the folder three times over, which a line says. If no image has room for
+the folder, nothing is made.
+
 The folder's own files have the word `sync:NAME` in the image. --as says which NAME, of at most 55 letters, digits and `_ - . + @`. Without it
 NAME is the folder's name and four digits that depend on its path. Only files with this word are written, given other words or removed: what
 others put in stays as it is. Words that somebody gave to the folder's files stay too, except those that begin with one of the heads below,
@@ -22,15 +25,15 @@ A file is named after its path below the folder, with `+` instead of `/`. If tha
 of its Message-ID, or of its path if it has none, and ends with `.eml`. So names are the same at each run.
 
 --without skips files and folders with such a name, as `.git` or `*.o`, and may be repeated. The image itself is skipped too, if it is in the
-folder, and its socket if it is served. No symbolic link below the folder is followed. Over a served image `sync` is a client of its server, and
+folder, its socket if it is served, and those that `tools/enlarge` kept. No symbolic link below the folder is followed. Over a served image `sync` is a client of its server, and
 what another client changes during the run is left as it is.
 
 --since DATE takes the files from a day, a month or a year on (2024-06-03, 2024-06, 2024), and --newest N the N newest files. The date of a
 mail is that of its header, and of another file the time of its last change. An older file does not come in. If it is in the image it is
 removed from it, unless somebody edited or renamed it there or gave it a word.
 
-The newest files come in first, so if the image has no room for all, the oldest are left out. A line says which limit was reached, and what
-helps. --reserve says how many of the words of the image stay free for you: a number, or a part such as 1/10 or 0.1. Without it this is a
+The newest files come in first, so if the image has no room for all, the oldest are left out. A line says which limit was reached, how much is
+needed, and what helps. --reserve says how many of the words of the image stay free for you: a number, or a part such as 1/10 or 0.1. Without it this is a
 twentieth.
 
 What a mail or a piece of music gave is kept in `$XDG_CACHE_HOME/lisfs`, or in `~/.cache/lisfs`, so that the next run reads only those whose
