@@ -7,6 +7,7 @@ import subprocess
 
 import pytest
 
+from lisfs import limits as limits_module
 from lisfs.client import PROGRAM, counts_in
 from lisfs.constants import NO_AXIOM_ROOM, NO_FILE_ROOM, NO_PROPERTY_ROOM, NO_SPACE
 from lisfs.folder import music
@@ -80,6 +81,16 @@ def test_blocks(size):
     with session() as program:
         program.add(b"f", bytes(size))
     assert blocks_of(size) == 300 - counts()["free"], "as the program takes them"
+
+
+def test_a_later_version_is_a_row(monkeypatch):
+    """Here one that no image has today."""
+    later = limits_module.Version(3, ("v3",), 262_144, 1_048_576, 16_777_216, 67_108_864)
+    monkeypatch.setattr(limits_module, "VERSIONS", (*limits_module.VERSIONS, later))
+    monkeypatch.setattr(limits_module, "LARGEST", later)
+    assert smallest(MOST).version == 2 and smallest(MOST._replace(files=4_097)).make() == ["8192", "8192", "32768", "v3"]
+    assert enlarged(Limits(4_096, 64, 64, 2), {"files": 0})[:4] == (8_192, 64, 64, 3) and blocks_of(67_108_864) == 16_400
+    assert beyond(Need(262_145, 1, 1))[0].most == 262_144
 
 
 def test_words_beside_free_ones():
