@@ -96,9 +96,11 @@ def make_alike(old: os.stat_result, path: str, new: Aside) -> None:
             os.fchown(new.descriptor, old.st_uid, old.st_gid)
         except PermissionError:
             raise Failed("it has another owner or group, which you may not give to the larger image") from None
-    for name in os.listxattr(path):
-        with contextlib.suppress(OSError):
-            os.setxattr(new.descriptor, name, os.getxattr(path, name))
+    # A file system may have none, or not allow each.
+    with contextlib.suppress(OSError):
+        for name in os.listxattr(path):
+            with contextlib.suppress(OSError):
+                os.setxattr(new.descriptor, name, os.getxattr(path, name))
     os.fchmod(new.descriptor, stat.S_IMODE(old.st_mode))
 
 
