@@ -37,7 +37,7 @@ from typing import BinaryIO, NamedTuple
 
 from lisfs.client import PROGRAM, Ended, NotAReply, Program, counts_in
 from lisfs.constants import BLOCK_LEN, MAX_ASSIGNED, MAX_BLOCKS, MAX_FILES, MAX_PROPS, MAX_WORD, SLOT_BLOCKS
-from lisfs.endings import folder_fault, quiet
+from lisfs.endings import Stopped, folder_fault, quiet, stop_at_signals
 from lisfs.folder import walk
 from lisfs.folder.carrying import ROOT, Job, Sender, Step, Words, fitting, session_word
 from lisfs.folder.entries import Entries, Entry, newest_first
@@ -45,6 +45,7 @@ from lisfs.folder.forms import folder_value
 from lisfs.folder.options import at_least_one, day
 from lisfs.folder.report import Telling, counted, left_out
 from lisfs.image import FILE_BYTES
+from lisfs.progress import Progress
 from lisfs.refusals import cause_of
 from lisfs.showing import harmless, write_line
 from lisfs.words import head_of, is_assignable, mapped
@@ -87,7 +88,7 @@ class Import:
         self.files: list[Taken] = []
         self.names: set[str] = set()
         self.declared: dict[bytes, None] = {}
-        self.taken = self.blocks = self.renamed = self.beyond = self.beyond_files = self.looked = self.older = 0
+        self.taken = self.blocks = self.renamed = self.beyond = self.beyond_files = self.older = 0
         # The folders whose word differs from their name, or that have none, and the words that represent two folders.
         self.odd_folders: set[str] = set()
         self.double_words: set[bytes] = set()
@@ -140,13 +141,9 @@ class Import:
             words.append(word)
         return words
 
-    def look(self) -> None:
-        self.looked += 1
-        self.telling.progress(lambda: f"{counted(self.looked, 'file')} looked at")
-
     def read(self, words: Options) -> None:
         """Finds the files to take, the newest first, and the words that they need."""
-        self.entries = entries = Entries(words.folder, self.largest, self.words_of, self.telling.leave, self.look, words.without)
+        self.entries = entries = Entries(words.folder, self.largest, self.words_of, self.telling.leave, self.telling.line, words.without)
         entries.read()
         entries.choose(words.since, words.newest)
         # Names depend on the order in which files are found.
@@ -190,16 +187,18 @@ class Import:
             yield Command((b"add", name, b"%d" % len(content), *line[1:]), content)
             if rest:
                 yield Command((b"mv", name, b"/".join(rest)))
-            self.telling.progress(lambda: f"{self.taken} of {counted(len(self.files), 'file')}")
 
     def carry(self, out: BinaryIO, largest: "Largest") -> None:
         """Writes the session, and sends it to the largest image too."""
-        for words, payload in self.commands():
-            out.write(b" ".join(words) + b"\n")
-            if payload is not None:
-                out.write(payload)
-                out.write(b"\n")
-            largest.take(words, payload)
+        size = sum(taken.found.size or 0 for taken in self.files)
+        with Progress(self.telling.line, "writing", len(self.files), size) as work:
+            for words, payload in self.commands():
+                out.write(b" ".join(words) + b"\n")
+                if payload is not None:
+                    out.write(payload)
+                    out.write(b"\n")
+                    work.add(1, len(payload))
+                largest.take(words, payload)
         out.flush()
 
     def report(self, largest: "Largest") -> None:
@@ -317,11 +316,16 @@ def main() -> int:
         write_line(sys.stderr, f"import: {fault}")
         return 2
     taking = Import(given, words.by_folder, 2 if words.v2 else 1, Telling("import", sys.stderr, words.verbose))
-    taking.read(words)
-    import tempfile
-    with tempfile.TemporaryDirectory() as folder:
-        largest = Largest(folder, taking.version)
-        taking.carry(sys.stdout.buffer, largest)
-        largest.end()
+    stop_at_signals()
+    try:
+        taking.read(words)
+        import tempfile
+        with tempfile.TemporaryDirectory() as folder:
+            largest = Largest(folder, taking.version)
+            taking.carry(sys.stdout.buffer, largest)
+            largest.end()
+    except (KeyboardInterrupt, Stopped):
+        taking.tell("stopped: the session is cut off")
+        return 1
     taking.report(largest)
     return 1 if taking.telling.not_taken else 0

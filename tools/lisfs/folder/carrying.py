@@ -19,6 +19,7 @@ from lisfs.folder import memory, names, walk
 from lisfs.folder.changes import MARKER, Change, Changes, Done
 from lisfs.folder.entries import Entry, newest_first
 from lisfs.folder.room import Room, Short
+from lisfs.progress import Look, no_look
 from lisfs.refusals import REFUSALS, cause_of, named
 from lisfs.words import head_of, stem_of
 
@@ -84,10 +85,11 @@ def session_word() -> str:
 
 
 class Sender:
-    """Runs jobs. A `cd` is sent only before a step whose place is not where the program is."""
+    """Runs jobs. A `cd` is sent only before a step whose place is not where the program is. `look` is called with the bytes of each command that
+    was replied to."""
 
-    def __init__(self, program: Program) -> None:
-        self._program, self._place, self._bytes = program, ROOT, 0
+    def __init__(self, program: Program, look: Look = no_look) -> None:
+        self._program, self._place, self._bytes, self._look = program, ROOT, 0, look
         self._waiting: collections.deque[Pending] = collections.deque()
         # A system may allow less.
         with contextlib.suppress(OSError):
@@ -143,6 +145,8 @@ class Sender:
         except Refused as error:
             refusal = error
             refusal.command, refusal.given = words[0].decode(), tuple(words[1:])
+        if size:
+            self._look(0, size)
         if job is not None:
             self._go_on(job, refusal)
         elif refusal is not None:

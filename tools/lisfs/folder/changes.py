@@ -18,6 +18,7 @@ from lisfs.folder import mails, music, walk
 from lisfs.folder.entries import Entry, newest_first
 from lisfs.folder.forms import folder_value
 from lisfs.folder.memory import REMOVAL, Record, Records, settled
+from lisfs.progress import Look, no_look
 from lisfs.words import head_of, stem_of
 
 MARKER, FOLDER = b"sync", b"in"
@@ -130,11 +131,12 @@ class Changes:
     `away` the paths of files that stay out of the image, and `renamed` are those that have another name in the image. `unseen` counts files that are
     not removed, since not all of the folder was seen. `older` counts files that are older than wanted and don't come in, `out` has the names of those
     in `gone` that are removed only for this reason, and `staying` counts those that stay nevertheless, since somebody changed them in the image.
-    `records` describe the state before any change, and after it what was done. `bytes_of` returns the bytes of a file of the image, and `top` is the
-    path of the folder."""
+    `records` describe the state before any change, and after it what was done. `bytes_of` returns the bytes of a file of the image, `top` is the
+    path of the folder, and `look` is called for each file that was compared."""
 
     def __init__(self, entries: Iterable[Entry], dump: Dump, marker: bytes, is_lean: bool = False, records: Records | None = None,
-                 wishes: Wishes = Wishes(), is_blind: bool = False, bytes_of: Callable[[bytes], bytes] | None = None, top: str = "") -> None:
+                 wishes: Wishes = Wishes(), is_blind: bool = False, bytes_of: Callable[[bytes], bytes] | None = None, top: str = "",
+                 look: Look = no_look) -> None:
         self.marker, self.dump, self.is_lean, self.wishes, self.is_blind, self.top = marker, dump, is_lean, wishes, is_blind, top
         self.changes: list[Change] = []
         self.gone: list[bytes] = []
@@ -165,7 +167,7 @@ class Changes:
         self.records = {key: record for key, record in self.records.items() if (record.folder, record.image) != (None, None)}
         # A name of a file that the folder has or had belongs to its record alone.
         self.claimed = {record.name for record in self.records.values() if record.folder is not None}
-        for key, entry in [(key, entry) for key, entry in keyed if not self._held(key, entry)]:
+        for key, entry in [(key, entry) for key, entry in keyed if not self._compared(key, entry, look)]:
             self._fresh(key, entry)
         self._left({key for key, _ in keyed})
         self.gone.sort()
@@ -283,6 +285,13 @@ class Changes:
             self.records[free.pop(0)] = record
 
     # Files of the folder.
+
+    def _compared(self, key: str, entry: Entry, look: Look) -> bool:
+        """The same as `_held`, counted."""
+        size = unread(entry)
+        is_held = self._held(key, entry)
+        look(1, size - unread(entry))
+        return is_held
 
     def _held(self, key: str, entry: Entry) -> bool:
         """Judges a file that was brought in, or that the image has without a record. Returns whether it is such a file."""
@@ -479,6 +488,10 @@ class Changes:
     def is_nothing(self) -> bool:
         return not self.changes and not self.gone
 
+    def size(self) -> int:
+        """How many bytes of the folder come into the image."""
+        return sum(change.entry.found.size or 0 for change in self.changes if change.has_other_bytes)
+
     def coming(self) -> Records:
         """The records before the changes, with the digest that is coming to each file."""
         found = self.seen()
@@ -556,6 +569,11 @@ def content_of(entry: Entry) -> bytes:
         return walk.content(entry.found, entry.found.size or 0)
     except OSError:
         return b""
+
+
+def unread(entry: Entry) -> int:
+    """How many bytes of a file were not read yet."""
+    return 0 if entry.digest is not None else entry.found.size or 0
 
 
 def digest_of(entry: Entry) -> bytes:

@@ -9,6 +9,7 @@ from typing import NamedTuple
 from lisfs import derived
 from lisfs.folder import cache, mails, music, names, walk
 from lisfs.folder.report import counted
+from lisfs.progress import Line, Progress
 
 # The kinds of records.
 MAIL, MUSIC = "mail", "music"
@@ -93,14 +94,14 @@ def newest_first(entry: Entry) -> tuple[float, str]:
 
 
 class Entries:
-    """Looks at the files of a folder. `largest` is the most bytes of a file; `folder_words` returns the words for the names of folders, `leave` is
-    called for what can't be taken, and `look` for each file. Files that `without` and `passed` describe are skipped. `tagless` counts the pieces of
+    """Looks at the files of a folder. `largest` is the most bytes of a file; `folder_words` returns the words for the names of folders, and `leave`
+    is called for what can't be taken. How far it is, `line` shows. Files that `without` and `passed` describe are skipped. `tagless` counts the pieces of
     music whose tags could not be read, and `is_deaf` says that the reader of tags is missing. What mails and music gave is first looked up in
     `remembered`."""
 
-    def __init__(self, top: str, largest: int, folder_words: Callable[[walk.Parts], list[bytes]], leave: walk.Leave, look: Callable[[], None],
+    def __init__(self, top: str, largest: int, folder_words: Callable[[walk.Parts], list[bytes]], leave: walk.Leave, line: Line,
                  without: Sequence[str] = (), passed: Sequence[os.stat_result] = (), remembered: cache.Cache | None = None) -> None:
-        self.walk, self.largest, self.folder_words, self.look = walk.Walk(top, leave, without, passed), largest, folder_words, look
+        self.walk, self.largest, self.folder_words, self._line = walk.Walk(top, leave, without, passed), largest, folder_words, line
         self.all: list[Entry] = []
         self.tagless, self.is_deaf = 0, False
         self._reader: music.Mutagen | None = None
@@ -110,10 +111,22 @@ class Entries:
         self._remembered: cache.Cache = remembered or cache.Nothing()
 
     def read(self) -> None:
-        for found in self.walk.files():
-            self.all.append(self.entry(found))
-            self.look()
+        files = self._walked()
+        with Progress(self._line, "reading", len(files), sum(found.size or 0 for found in files)) as work:
+            for found in files:
+                size = found.size or 0
+                self.all.append(self.entry(found))
+                work.add(1, size)
         self._tell_apart()
+
+    def _walked(self) -> list[walk.Found]:
+        """The files, before any is read, so that it is known how many there are."""
+        files: list[walk.Found] = []
+        with Progress(self._line, "looking") as work:
+            for found in self.walk.files():
+                files.append(found)
+                work.add(1, found.size or 0)
+        return files
 
     def entry(self, found: walk.Found) -> Entry:
         entry = Entry(found, date=found.kind.st_mtime if found.kind else 0.0)

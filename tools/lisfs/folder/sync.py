@@ -66,18 +66,16 @@ import contextlib
 import hashlib
 import os
 import re
-import signal
 import struct
 import sys
 from collections.abc import Sequence
 from fractions import Fraction
-from typing import NoReturn
 
 from lisfs import opening
 from lisfs.client import PROGRAM, Ended, Locked, NotAReply, Program, missing, socket_of
 from lisfs.constants import MAX_ASSIGNED, MAX_DERIVED, MAX_DESCRIPTION, MAX_WORD
 from lisfs.dumps import Dump, NotADump
-from lisfs.endings import folder_fault, quiet
+from lisfs.endings import Stopped, folder_fault, quiet, stop_at_signals
 from lisfs.folder.cache import Cache, Nothing, Remembered
 from lisfs.folder.carrying import Carrying, NoRoom, Sender, session_word
 from lisfs.folder.changes import MARKER, Changes, Done, Side, Wishes, folder_words
@@ -89,10 +87,10 @@ from lisfs.folder.private import private_copy
 from lisfs.folder.report import Telling, counted, left_out
 from lisfs.folder.room import RESERVE, Room, kept_free
 from lisfs.image import limits_of
+from lisfs.progress import Progress
 from lisfs.showing import harmless, write_line
 from lisfs.words import PLAIN_FORM, PLAIN_RUN
 
-STOPS = (signal.SIGTERM, signal.SIGHUP)
 # What is counted, and the words of the report.
 COUNTED = {Done.NEW: "new", Done.CHANGED: "changed", Done.MOVED: "moved", Done.WORDS: "with other words", Done.GONE: "gone",
            Done.OLD: "removed as older"}
@@ -104,10 +102,6 @@ ONE_SIDE = re.compile(r"--(ours|theirs)=(.+)", re.S)
 
 class Failed(Exception):
     """What is wrong, in one line."""
-
-
-class Stopped(BaseException):
-    """A signal came that ends this program."""
 
 
 def default_name(folder: str) -> bytes:
@@ -149,8 +143,9 @@ class Sync:
         # Why what was brought in could not be kept, and what earlier runs brought in, if it is known.
         self.unkept: str | None = None
         self.known: Records | None = None
-        # How many files of each kind were done, and how many in all.
-        self.counts, self.done = dict.fromkeys(COUNTED, 0), 0
+        # How many files of each kind were done, and how far the changes are.
+        self.counts = dict.fromkeys(COUNTED, 0)
+        self.work = Progress(telling.line, "changing")
         # The entries so far, for a report after an early end.
         self.entries: Entries | None = None
         self.plan: Changes | None = None
@@ -159,13 +154,11 @@ class Sync:
     def run(self) -> None:
         with contextlib.ExitStack() as stack:
             if self.words.dry_run:
-                self.telling.clear()
                 self.path = stack.enter_context(private_copy(self.image))
             room = self.look()
             entries, remembered = self.read(room.limits.file_bytes)
             if not self.words.dry_run:
                 remembered.save()
-            self.telling.clear()
             program, dump = opening.opened("sync", self.path, session_word(), with_digests=True)
             with program:
                 # What another client changes from now on is not overwritten.
@@ -188,18 +181,12 @@ class Sync:
 
     def read(self, largest: int) -> tuple[Entries, Cache]:
         """Looks at the files of the folder."""
-        looked = 0
-
-        def look() -> None:
-            nonlocal looked
-            looked += 1
-            self.telling.progress(lambda: f"{counted(looked, 'file')} looked at")
-
         remembered: Cache = Nothing()
         if not self.words.no_cache:
             remembered = Remembered(self.folder)
         folders = no_words if self.words.flat else folder_words
-        self.entries = entries = Entries(self.folder, largest, folders, self.telling.leave, look, self.words.without, own_files(self.image), remembered)
+        self.entries = entries = Entries(self.folder, largest, folders, self.telling.leave, self.telling.line, self.words.without,
+                                         own_files(self.image), remembered)
         entries.read()
         entries.choose(self.words.since, self.words.newest)
         return entries, remembered
@@ -208,8 +195,9 @@ class Sync:
         named = {within(self.folder, path): side for path, side in self.words.named.items()}
         wishes = Wishes(self.words.side, named, self.words.restore)
         self.known = self.memory.read(dump.declared)
-        plan = Changes(entries.all, dump, self.marker, self.words.lean, self.known, wishes, entries.walk.is_blind, lambda name: program.cat(name).body,
-                       self.folder)
+        with Progress(self.telling.line, "comparing", len(entries.all)) as work:
+            plan = Changes(entries.all, dump, self.marker, self.words.lean, self.known, wishes, entries.walk.is_blind,
+                           lambda name: program.cat(name).body, self.folder, work.add)
         if plan.own and not plan.kept and not plan.is_blind and not self.words.all_gone:
             raise Failed(f"nothing was done: none of the {counted(plan.own, 'file')} of {self.marker.decode()} is in {self.folder} any "
                          "more; --all-gone removes them anyway")
@@ -219,7 +207,8 @@ class Sync:
         return plan
 
     def carry(self, program: Program, plan: Changes, room: Room) -> None:
-        self.carrying = carrying = Carrying(Sender(program), plan, room, self.told, self.failed)
+        self.work = Progress(self.telling.line, "changing", len(plan.changes) + len(plan.gone), plan.size())
+        self.carrying = carrying = Carrying(Sender(program, self.work.add), plan, room, self.told, self.failed)
         carrying.declare()
         before, coming = set(carrying.memories), None
         if not plan.is_nothing():
@@ -243,7 +232,7 @@ class Sync:
         return word
 
     def told(self, what: Done, name: bytes, more: str = "") -> None:
-        self.count()
+        self.work.add(1)
         if what is not Done.SAME:
             self.counts[what] += 1
             self.telling.tell_file(f"{what.value}: {name.decode()}" + (f": {harmless(more)}" if more else ""))
@@ -251,14 +240,8 @@ class Sync:
             self.plan.same += 1
 
     def failed(self, path: str, why: str) -> None:
-        self.count()
+        self.work.add(1)
         self.telling.leave(path, why)
-
-    def count(self) -> None:
-        self.done += 1
-        if self.plan:
-            total = len(self.plan.changes) + len(self.plan.gone)
-            self.telling.progress(lambda: f"{self.done} of {total} changes")
 
     def report(self) -> None:
         """Prints the counts, as far as they are known."""
@@ -384,10 +367,6 @@ def cause(error: BaseException, image: str) -> str:
     return str(error)
 
 
-def stop(*_: object) -> NoReturn:
-    raise Stopped
-
-
 def apart(given: Sequence[str]) -> tuple[list[str], list[tuple[str, Side]]]:
     """The words of a command line without those that settle one conflict, and these: each a path and a side."""
     end = given.index("--") if "--" in given else len(given)
@@ -435,10 +414,7 @@ def main() -> int:
     if fault := folder_fault(words.folder):
         write_line(sys.stderr, f"sync: {fault}")
         return 2
-    for number in STOPS:
-        # A signal that is ignored, as by `nohup`, stays ignored.
-        if signal.getsignal(number) == signal.SIG_DFL:
-            signal.signal(number, stop)
+    stop_at_signals()
     telling = Telling("sync", sys.stdout, words.verbose or words.dry_run)
     syncing = Sync(words, telling)
     amiss: str | None = None
@@ -449,7 +425,7 @@ def main() -> int:
     except (Ended, Failed, NoRoom, NotADump, NotAReply, OSError, RuntimeError, KeyboardInterrupt, Stopped) as error:
         amiss = cause(error, words.image).replace(syncing.path, words.image)
         amiss += "; the next run goes on" if syncing.carrying and not words.dry_run else ""
-    telling.clear()
+    telling.line.clear()
     syncing.report()
     sys.stdout.flush()
     if amiss:
