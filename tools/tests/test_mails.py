@@ -52,7 +52,7 @@ LINES = (b"a:\n", b"To: a\n", b" \n", b"\ta\n", b"From x\n", b"a:\r", b"From: a@
 
 def hostile():
     """The most expensive headers, by name."""
-    for field in (b"From", b"To", b"Cc", b"Subject", b"Date", b"Message-ID", b"List-Id"):
+    for field in (b"From", b"To", b"Cc", b"Subject", b"Date", b"Message-ID", b"List-Id", b"References", b"In-Reply-To"):
         for piece in PIECES:
             yield f"{field} of {piece[:20]}", field + b": " + filled(piece) + b"\n\nText.\n"
     for piece in LINES:

@@ -1,6 +1,6 @@
 """Makes a session from a folder or a maildir: the words that are needed, and an `add` line with its bytes for each file.
 
-usage: tools/import [--word WORD].. [--by-folder] [--without PATTERN].. [--since DATE] [--newest N] [--v2] [--verbose] FOLDER > session
+usage: tools/import [--word WORD].. [--by-folder] [--without PATTERN].. [--since DATE] [--newest N] [--threads] [--v2] [--verbose] FOLDER > session
        ./lisfs run files.lis < session
        tools/talk files.lis < session      (if files.lis is served by `tools/serve files.lis`)
 
@@ -13,6 +13,9 @@ A folder that has `cur` and `new` in it is a maildir, and so is a folder below t
 folders named `.NAME.NAME`. Each mail is named after its file without the flags, and the name ends with `.eml`. Elsewhere a file named `.eml`
 is a mail. --without skips files and folders with such a name, as `.git` or `*.o`, and may be repeated. --v2 is for an image of version 2: it
 takes files of up to 1,048,576 bytes; without it 65,536 are the most.
+
+--threads gives the mails of each thread one word more, `thread:` and the subject of the thread's first mail. A mail whose parent, by References and
+In-Reply-To, is not in the folder begins a thread, and a mail alone gets no such word.
 
 --since DATE takes the files from a day, a month or a year on (2024-06-03, 2024-06, 2024), and --newest N the N newest files. The date of a
 mail is that of its header, and of another file the time of its last change. The newest files come first in the session, so an image that has
@@ -62,6 +65,7 @@ class Options(argparse.Namespace):
     without: list[str]
     since: float | None
     newest: int | None
+    threads: bool
     v2: bool
     verbose: bool
     folder: str
@@ -143,7 +147,8 @@ class Import:
 
     def read(self, words: Options) -> None:
         """Finds the files to take, the newest first, and the words that they need."""
-        self.entries = entries = Entries(words.folder, self.largest, self.words_of, self.telling.leave, self.telling.line, words.without)
+        self.entries = entries = Entries(words.folder, self.largest, self.words_of, self.telling.leave, self.telling.line, words.without,
+                                         has_threads=words.threads)
         entries.read()
         entries.choose(words.since, words.newest)
         # Names depend on the order in which files are found.
@@ -302,6 +307,7 @@ def main() -> int:
     parser.add_argument("--without", action="append", default=[])
     parser.add_argument("--since", type=day)
     parser.add_argument("--newest", type=at_least_one)
+    parser.add_argument("--threads", action="store_true")
     parser.add_argument("--v2", action="store_true")
     parser.add_argument("--verbose", action="store_true")
     parser.add_argument("folder")

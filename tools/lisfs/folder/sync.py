@@ -1,6 +1,6 @@
 """Brings a folder or a maildir into an image, again and again: what is new, what has changed, and what is gone.
 
-usage: tools/sync [--as NAME] [--without PATTERN].. [--since DATE] [--newest N] [--reserve NUMBER] [--flat] [--lean] [--dry-run] [--verbose] [--all-gone] [--no-cache] [--ours[=PATH] | --theirs[=PATH]].. [--restore] IMAGE FOLDER
+usage: tools/sync [--as NAME] [--without PATTERN].. [--since DATE] [--newest N] [--reserve NUMBER] [--flat] [--lean] [--threads] [--dry-run] [--verbose] [--all-gone] [--no-cache] [--ours[=PATH] | --theirs[=PATH]].. [--restore] IMAGE FOLDER
 
 The folder's own files have the word `sync:NAME` in the image. --as says which NAME, of at most 55 letters, digits and `_ - . + @`. Without it
 NAME is the folder's name and four digits that depend on its path. Only files with this word are written, given other words or removed: what
@@ -40,6 +40,7 @@ Files get words in this order, at most 15 beside `sync:NAME`:
   in:FOLDER       for each folder that it is in, unless --flat is given
   date:2024-06    of a mail, the month of its Date
   list:           its List-Id
+  thread:         the subject of the first mail of its thread, if --threads is given and the thread has another mail
   who:            those who wrote it, by name or otherwise by address
   about:          the words of its Subject that carry meaning
   who:            those who got it
@@ -50,6 +51,9 @@ image then has room for more mails and sources.
 
 Words that do not fit are counted: those beyond the 16 that a file is given, the 128 that it has in all, and the 48 that the program derives
 for it. A search by a derived word can miss a file whose words are cut.
+
+--threads gives the mails of each thread one word, so that they are found together: one word for each subject of a thread. A mail whose parent, by
+References and In-Reply-To, is not in the folder begins a thread. Without --threads all `thread:` words stay as they are, and new mails get none.
 
 --dry-run says what it would do, one line a file. It works on a copy of the image below the temporary folder, and no byte of the image
 changes. --verbose says what is done in the same way: each path that comes in, changes or is removed. The counts come at the end, and on a terminal there is a line of progress. If none of its
@@ -121,6 +125,7 @@ class Options(argparse.Namespace):
     reserve: Fraction
     flat: bool
     lean: bool
+    threads: bool
     dry_run: bool
     verbose: bool
     all_gone: bool
@@ -186,14 +191,14 @@ class Sync:
             remembered = Remembered(self.folder)
         folders = no_words if self.words.flat else folder_words
         self.entries = entries = Entries(self.folder, largest, folders, self.telling.leave, self.telling.line, self.words.without,
-                                         own_files(self.image), remembered)
+                                         own_files(self.image), remembered, self.words.threads)
         entries.read()
         entries.choose(self.words.since, self.words.newest)
         return entries, remembered
 
     def make_plan(self, entries: Entries, dump: Dump, program: Program) -> Changes:
         named = {within(self.folder, path): side for path, side in self.words.named.items()}
-        wishes = Wishes(self.words.side, named, self.words.restore)
+        wishes = Wishes(self.words.side, named, self.words.restore, self.words.threads)
         self.known = self.memory.read(dump.declared)
         with Progress(self.telling.line, "comparing", len(entries.all)) as work:
             plan = Changes(entries.all, dump, self.marker, self.words.lean, self.known, wishes, entries.walk.is_blind,
@@ -384,6 +389,7 @@ def options() -> Options:
     parser.add_argument("--reserve", type=part_or_number, default=RESERVE)
     parser.add_argument("--flat", action="store_true")
     parser.add_argument("--lean", action="store_true")
+    parser.add_argument("--threads", action="store_true")
     parser.add_argument("--dry-run", action="store_true")
     parser.add_argument("--verbose", action="store_true")
     parser.add_argument("--all-gone", action="store_true")
