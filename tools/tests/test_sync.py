@@ -213,6 +213,7 @@ def test_no_room_for_files(hundred):
 def test_no_room_for_words(hundred):
     make("words", ("128", "128", "512"))
     status, out, error = sync("--as", "m", "--reserve", "0", "words", "mail")
+    assert out.pop(0).startswith("words: not enough known words (100 new files need "), "what is said before the run"
     assert (status, out[0], error) == (1, "sync:m: 100 new, 0 as they were", ""), "no room for words"
     assert (
         len(out) == 4 and re.fullmatch(r"[0-9]+ words of [0-9]+ files left out: no room for more words", out[1])

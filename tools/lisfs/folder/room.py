@@ -4,7 +4,7 @@ Files come in one after the other, the newest first, and each takes its room bef
 come by then. Some of the words that an image may know are kept free for the person. The program is asked which words it knows only if there may be
 too many.
 """
-from collections.abc import Iterable, Mapping
+from collections.abc import Iterable, Mapping, Sequence
 from fractions import Fraction
 from typing import NamedTuple
 
@@ -15,6 +15,16 @@ from lisfs.words import head_of
 
 # The part of the words that is kept free if nobody says how many.
 RESERVE = Fraction(1, 20)
+
+
+def with_heads(words: Sequence[bytes]) -> list[bytes]:
+    """Words and the heads that become known with them."""
+    return [*words, *filter(None, map(head_of, words))]
+
+
+def own_words(name: bytes, content: bytes) -> list[bytes]:
+    """The words that the program derives from a file, with their heads."""
+    return with_heads(derived.derived_words(name, content)[:MAX_DERIVED])
 
 
 def kept_free(wish: Fraction, words: int) -> int:
@@ -51,19 +61,23 @@ class Room:
         """Takes the words that the image knows."""
         self._known = set(known)
 
+    @property
+    def free(self) -> int:
+        """How many more words may become known."""
+        return max(self._words, 0)
+
     def words_of(self, name: bytes, content: bytes) -> list[bytes]:
-        """The words that the program derives from a file, with their heads, if they must be counted."""
+        """The words of `own_words`, if they must be counted."""
         if self._known is None:
             return []
-        words = derived.derived_words(name, content)[:MAX_DERIVED]
-        return words + [head for head in map(head_of, words) if head]
+        return own_words(name, content)
 
     def take(self, words: Iterable[bytes]) -> bool:
         """Whether there is room for the words of a file. If so, they count as known."""
         if self._known is None:
             return True
         new = set(words) - self._known
-        if len(new) > max(self._words, 0):
+        if len(new) > self.free:
             return False
         self._words -= len(new)
         self._known |= new

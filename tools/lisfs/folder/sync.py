@@ -86,6 +86,7 @@ from lisfs.folder.changes import MARKER, Changes, Done, Side, Wishes, folder_wor
 from lisfs.folder.entries import Entries
 from lisfs.folder.forms import folder_value
 from lisfs.folder.memory import Memory, Records
+from lisfs.folder.needs import can_be_lean
 from lisfs.folder.options import at_least_one, day, part_or_number
 from lisfs.folder.private import private_copy
 from lisfs.folder.report import Telling, counted, left_out
@@ -155,6 +156,8 @@ class Sync:
         self.entries: Entries | None = None
         self.plan: Changes | None = None
         self.carrying: Carrying | None = None
+        # Whether it was said before the first change that words will run short.
+        self.is_foretold = False
 
     def run(self) -> None:
         with contextlib.ExitStack() as stack:
@@ -213,7 +216,8 @@ class Sync:
 
     def carry(self, program: Program, plan: Changes, room: Room) -> None:
         self.work = Progress(self.telling.line, "changing", len(plan.changes) + len(plan.gone), plan.size())
-        self.carrying = carrying = Carrying(Sender(program, self.work.add), plan, room, self.told, self.failed)
+        self.carrying = carrying = Carrying(Sender(program, self.work.add), plan, room, self.told, self.failed, self.runs_short)
+        self.foretell(carrying)
         carrying.declare()
         before, coming = set(carrying.memories), None
         if not plan.is_nothing():
@@ -224,6 +228,22 @@ class Sync:
             is_other = self.remember(carrying, plan.seen()) != coming and coming is not None and coming not in before
             if is_other and coming is not None and not self.words.dry_run:
                 self.memory.forget(coming)
+
+    def foretell(self, carrying: Carrying) -> None:
+        """Says before the first change that there are not enough words for all, if --lean needs fewer."""
+        with Progress(self.telling.line, "counting words", sum(change.is_new for change in carrying.plan.changes)) as work:
+            needs = carrying.needs(work.add)
+        if needs and needs.helps():
+            self.is_foretold = True
+            self.telling.tell(f"{harmless(self.image)}: not enough known words ({counted(needs.files, 'new file')} need {needs.words:,}, and "
+                              f"{needs.free:,} are free): --lean needs {needs.lean:,}{', also too many' if needs.lean > needs.free else ''}: {lean_command()}")
+
+    def runs_short(self, begun: int) -> None:
+        """Says in the middle of a run that words run short, if --lean helps and this was not foretold."""
+        if self.carrying and can_be_lean(self.carrying.plan) and not self.is_foretold:
+            room = self.carrying.room
+            self.telling.tell(f"{harmless(self.image)}: known words run short after {begun:,} of {len(self.carrying.plan.changes):,} changes "
+                              f"({room.limits.words:,} in all, {room.reserve:,} of them kept free): --lean needs fewer: {lean_command()}")
 
     def remember(self, carrying: Carrying, records: Records) -> bytes | None:
         """Keeps what was brought in, and makes the image name it by a word, which it returns. If that is impossible, the image names nothing."""
@@ -334,6 +354,14 @@ class Sync:
         if self.telling.not_taken or self.unkept or plan and (plan.unseen or plan.conflicts) or self.unsettled():
             return False
         return not (carrying and (carrying.without or carrying.too_many or carrying.lean or carrying.is_forgetful))
+
+
+def lean_command() -> str:
+    """The command of this run, with --lean."""
+    # Few runs are short of words.
+    import shlex
+    tool, *words = sys.argv
+    return harmless(shlex.join([tool, "--lean", *words]))
 
 
 def own_files(image: str) -> list[os.stat_result]:
