@@ -242,8 +242,9 @@ def test_lean_told_in_the_middle():
     written("mail/cur/a:2,", sent(0))
     assert sync("--as", "m", "--reserve", "0", "image", "mail")[0] == 0
     written("mail/cur/a:2,", sent(0, to=", ".join(f"to{number}@example.org" for number in range(40))))
+    # Each new mail needs six words, and the changed one some forty.
     free = 256 - known()
-    count = free // 14
+    count = (free - 40) // 6
     for number in range(1, count):
         written(f"mail/cur/{number}:2,", sent(number, f"Subject one{number} two{number}", sender=f"Person P{number} <p{number}@example.org>"))
     status, out, _ = sync("--as", "m", "--reserve", "0", "image", "mail")
