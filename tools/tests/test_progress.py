@@ -2,6 +2,7 @@
 import contextlib
 import fcntl
 import io
+import itertools
 import os
 import pty
 import re
@@ -15,6 +16,8 @@ import pytest
 
 import support
 from lisfs.client import PROGRAM
+from lisfs.folder import sync
+from lisfs.folder.report import Telling
 from lisfs.progress import CLEAR, PAUSE, Line, Progress, clocked, sized
 from lisfs.showing import columns_of
 from support.images import written
@@ -241,7 +244,23 @@ def test_sync(program):
     make()
     status, out, left = (ran := Tool("sync", "--as", "m", "image", "mail")).ends()
     assert (status, out, left) == (0, b"sync: sync:m: 200 new, 0 as they were\n", b""), "nothing is left"
-    assert b"\rsync: looking: 1 file" in ran.said and b" of 200 files, " in ran.said and b"\n" not in ran.said, ran.said
+    assert ran.said.startswith(b"\rsync: looking: 1 file") and b"\n" not in ran.said, ran.said
+
+
+def test_each_part_of_a_sync(program, monkeypatch):
+    """With a clock that goes on at each look at it, each file is shown."""
+    mails(3)
+    make()
+    monkeypatch.setattr(sys, "argv", ["sync", "--as", "m", "image", "mail"])
+    for wanted in (("looking: 3 files, 465 bytes", "reading: 3 of 3 files", "comparing: 3 of 3 files", "changing: 3 of 3 files"),
+                   ("comparing: 3 of 3 files",)):
+        telling, stream, ticks = Telling("sync", io.StringIO(), False), Terminal(), itertools.count(0, PAUSE)
+        telling.line = Line("sync", 0, stream, lambda: next(ticks))
+        sync.Sync(sync.options(), telling).run()
+        telling.line.clear()
+        found = texts_in(stream.getvalue())
+        assert found[-1] == "" and all(any(text.startswith(f"sync: {part}") for text in found) for part in wanted), found
+        assert any(text.startswith("sync: changing") for text in found) == (len(wanted) > 1), found
 
 
 def test_import(program):
@@ -258,7 +277,7 @@ def test_stopped(program, words, number):
     mails(1_500)
     make()
     ran = Tool(*words)
-    ran.sees(b"reading")
+    ran.sees(b"looking")
     ran.child.send_signal(number)
     status, _, left = ran.ends()
     assert (status, left) == (1, b"sync: stopped\r\n" if words[0] == "sync" else b"import: stopped: the session is cut off\r\n"), ran.said
