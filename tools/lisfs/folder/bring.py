@@ -1,6 +1,6 @@
 """Makes a session from a folder or a maildir: the words that are needed, and an `add` line with its bytes for each file.
 
-usage: tools/import [--word WORD].. [--by-folder] [--without PATTERN].. [--since DATE] [--newest N] [--v2] [--verbose] FOLDER > session
+usage: tools/import [--word WORD].. [--by-folder] [--without PATTERN].. [--since DATE] [--newest N] [--threads] [--v2] [--verbose] FOLDER > session
        ./lisfs run files.lis < session
        tools/talk files.lis < session      (if files.lis is served by `tools/serve files.lis`)
 
@@ -13,6 +13,9 @@ A folder that has `cur` and `new` in it is a maildir, and so is a folder below t
 folders named `.NAME.NAME`. Each mail is named after its file without the flags, and the name ends with `.eml`. Elsewhere a file named `.eml`
 is a mail. --without skips files and folders with such a name, as `.git` or `*.o`, and may be repeated. --v2 is for an image of version 2: it
 takes files of up to 1,048,576 bytes; without it 65,536 are the most.
+
+--threads gives the mails of each thread one word more, `thread:` and the subject of the thread's first mail. A mail whose parent, by References and
+In-Reply-To, is not in the folder begins a thread, and a mail alone gets no such word.
 
 --since DATE takes the files from a day, a month or a year on (2024-06-03, 2024-06, 2024), and --newest N the N newest files. The date of a
 mail is that of its header, and of another file the time of its last change. The newest files come first in the session, so an image that has
@@ -37,7 +40,7 @@ from typing import BinaryIO, NamedTuple
 
 from lisfs.client import PROGRAM, Ended, NotAReply, Program, counts_in
 from lisfs.constants import MAX_ASSIGNED, MAX_WORD
-from lisfs.endings import folder_fault, quiet
+from lisfs.endings import Stopped, folder_fault, quiet, stop_at_signals
 from lisfs.folder import walk
 from lisfs.folder.carrying import ROOT, Job, Sender, Step, Words, fitting, session_word
 from lisfs.folder.entries import Entries, Entry, newest_first
@@ -45,6 +48,7 @@ from lisfs.folder.forms import folder_value
 from lisfs.folder.options import at_least_one, day
 from lisfs.folder.report import Telling, counted, left_out
 from lisfs.limits import LARGEST, VERSIONS, Limits, Need, beyond, blocks_of, smallest
+from lisfs.progress import Progress
 from lisfs.refusals import cause_of
 from lisfs.showing import harmless, write_line
 from lisfs.words import head_of, is_assignable, mapped
@@ -61,6 +65,7 @@ class Options(argparse.Namespace):
     without: list[str]
     since: float | None
     newest: int | None
+    threads: bool
     v2: bool
     verbose: bool
     folder: str
@@ -87,7 +92,7 @@ class Import:
         self.files: list[Taken] = []
         self.names: set[str] = set()
         self.declared: dict[bytes, None] = {}
-        self.taken = self.blocks = self.renamed = self.beyond = self.beyond_files = self.looked = self.older = 0
+        self.taken = self.blocks = self.renamed = self.beyond = self.beyond_files = self.older = 0
         # The folders whose word differs from their name, or that have none, and the words that represent two folders.
         self.odd_folders: set[str] = set()
         self.double_words: set[bytes] = set()
@@ -140,13 +145,10 @@ class Import:
             words.append(word)
         return words
 
-    def look(self) -> None:
-        self.looked += 1
-        self.telling.progress(lambda: f"{counted(self.looked, 'file')} looked at")
-
     def read(self, words: Options) -> None:
         """Finds the files to take, the newest first, and the words that they need."""
-        self.entries = entries = Entries(words.folder, self.largest, self.words_of, self.telling.leave, self.look, words.without)
+        self.entries = entries = Entries(words.folder, self.largest, self.words_of, self.telling.leave, self.telling.line, words.without,
+                                         has_threads=words.threads)
         entries.read()
         entries.choose(words.since, words.newest)
         # Names depend on the order in which files are found.
@@ -190,16 +192,18 @@ class Import:
             yield Command((b"add", name, b"%d" % len(content), *line[1:]), content)
             if rest:
                 yield Command((b"mv", name, b"/".join(rest)))
-            self.telling.progress(lambda: f"{self.taken} of {counted(len(self.files), 'file')}")
 
     def carry(self, out: BinaryIO, largest: "Largest") -> None:
         """Writes the session, and sends it to the largest image too."""
-        for words, payload in self.commands():
-            out.write(b" ".join(words) + b"\n")
-            if payload is not None:
-                out.write(payload)
-                out.write(b"\n")
-            largest.take(words, payload)
+        size = sum(taken.found.size or 0 for taken in self.files)
+        with Progress(self.telling.line, "writing", len(self.files), size) as work:
+            for words, payload in self.commands():
+                out.write(b" ".join(words) + b"\n")
+                if payload is not None:
+                    out.write(payload)
+                    out.write(b"\n")
+                    work.add(1, len(payload))
+                largest.take(words, payload)
         out.flush()
 
     def report(self, largest: "Largest") -> None:
@@ -297,6 +301,7 @@ def main() -> int:
     parser.add_argument("--without", action="append", default=[])
     parser.add_argument("--since", type=day)
     parser.add_argument("--newest", type=at_least_one)
+    parser.add_argument("--threads", action="store_true")
     parser.add_argument("--v2", action="store_true")
     parser.add_argument("--verbose", action="store_true")
     parser.add_argument("folder")
@@ -311,11 +316,16 @@ def main() -> int:
         write_line(sys.stderr, f"import: {fault}")
         return 2
     taking = Import(given, words.by_folder, 2 if words.v2 else 1, Telling("import", sys.stderr, words.verbose))
-    taking.read(words)
-    import tempfile
-    with tempfile.TemporaryDirectory() as folder:
-        largest = Largest(folder, taking.version)
-        taking.carry(sys.stdout.buffer, largest)
-        largest.end()
+    stop_at_signals()
+    try:
+        taking.read(words)
+        import tempfile
+        with tempfile.TemporaryDirectory() as folder:
+            largest = Largest(folder, taking.version)
+            taking.carry(sys.stdout.buffer, largest)
+            largest.end()
+    except (KeyboardInterrupt, Stopped):
+        taking.tell("stopped: the session is cut off")
+        return 1
     taking.report(largest)
     return 1 if taking.telling.not_taken else 0

@@ -20,6 +20,16 @@ from lisfs.words import head_of
 RESERVE = Fraction(1, 20)
 
 
+def with_heads(words: Sequence[bytes]) -> list[bytes]:
+    """Words and the heads that become known with them."""
+    return [*words, *filter(None, map(head_of, words))]
+
+
+def own_words(name: bytes, content: bytes) -> list[bytes]:
+    """The words that the program derives from a file, with their heads."""
+    return with_heads(derived.derived_words(name, content)[:MAX_DERIVED])
+
+
 def kept_free(wish: Fraction, words: int) -> int:
     """How many of this number of words are kept free: a fraction of them, or a number."""
     return int(wish * words) if wish < 1 else int(wish)
@@ -50,10 +60,6 @@ def words_alone(entry: Entry, name: bytes) -> list[bytes]:
     return derived.words_by_name(name, size)
 
 
-def with_heads(words: Sequence[bytes]) -> list[bytes]:
-    return [*words, *filter(None, map(head_of, words))]
-
-
 class Room:
     """The files that an image can still take, and the words that may become known. `reserve` words are kept free."""
 
@@ -77,18 +83,23 @@ class Room:
         """Takes the words that the image knows."""
         self._known = set(known)
 
+    @property
+    def free(self) -> int:
+        """How many more words may become known."""
+        return max(self._words, 0)
+
     def words_of(self, name: bytes, content: bytes) -> list[bytes]:
-        """The words that the program derives from a file, with their heads, if they must be counted."""
+        """The words of `own_words`, if they must be counted."""
         if self._known is None:
             return []
-        return with_heads(derived.derived_words(name, content)[:MAX_DERIVED])
+        return own_words(name, content)
 
     def take(self, words: Iterable[bytes]) -> bool:
         """Whether there is room for the words of a file. If so, they count as known."""
         if self._known is None:
             return True
         new = set(words) - self._known
-        if len(new) > max(self._words, 0):
+        if len(new) > self.free:
             self._lacking |= new
             return False
         self._words -= len(new)

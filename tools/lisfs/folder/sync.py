@@ -1,6 +1,6 @@
 """Brings a folder or a maildir into an image, again and again: what is new, what has changed, and what is gone.
 
-usage: tools/sync [--as NAME] [--without PATTERN].. [--since DATE] [--newest N] [--reserve NUMBER] [--flat] [--lean] [--dry-run] [--verbose] [--all-gone] [--no-cache] [--ours[=PATH] | --theirs[=PATH]].. [--restore] IMAGE FOLDER
+usage: tools/sync [--as NAME] [--without PATTERN].. [--since DATE] [--newest N] [--reserve NUMBER] [--flat] [--lean] [--threads] [--dry-run] [--verbose] [--all-gone] [--no-cache] [--ours[=PATH] | --theirs[=PATH]].. [--restore] IMAGE FOLDER
 
 If IMAGE is missing, it is made: the smallest image that has room for the folder three times over, which a line says. If no image has room for
 the folder, nothing is made.
@@ -43,6 +43,7 @@ Files get words in this order, at most 15 beside `sync:NAME`:
   in:FOLDER       for each folder that it is in, unless --flat is given
   date:2024-06    of a mail, the month of its Date
   list:           its List-Id
+  thread:         the subject of the first mail of its thread, if --threads is given and the thread has another mail
   who:            those who wrote it, by name or otherwise by address
   about:          the words of its Subject that carry meaning
   who:            those who got it
@@ -53,6 +54,9 @@ image then has room for more mails and sources.
 
 Words that do not fit are counted: those beyond the 16 that a file is given, the 128 that it has in all, and the 48 that the program derives
 for it. A search by a derived word can miss a file whose words are cut.
+
+--threads gives the mails of each thread one word, so that they are found together: one word for each subject of a thread. A mail whose parent, by
+References and In-Reply-To, is not in the folder begins a thread. Without --threads all `thread:` words stay as they are, and new mails get none.
 
 --dry-run says what it would do, one line a file. It works on a copy of the image below the temporary folder, and no byte of the image
 changes. --verbose says what is done in the same way: each path that comes in, changes or is removed. The counts come at the end, and on a terminal there is a line of progress. If none of its
@@ -69,34 +73,33 @@ import contextlib
 import hashlib
 import os
 import re
-import signal
 import struct
 import sys
 from collections.abc import Sequence
 from fractions import Fraction
-from typing import NoReturn
 
 from lisfs import making, opening
 from lisfs.client import PROGRAM, Ended, Locked, NotAReply, Program, missing, socket_of
 from lisfs.constants import MAX_ASSIGNED, MAX_DERIVED, MAX_DESCRIPTION, MAX_WORD
 from lisfs.dumps import Dump, NotADump
-from lisfs.endings import folder_fault, quiet
+from lisfs.endings import Stopped, folder_fault, quiet, stop_at_signals
 from lisfs.folder.cache import Cache, Nothing, Remembered
 from lisfs.folder.carrying import Carrying, NoRoom, Sender, session_word
 from lisfs.folder.changes import MARKER, Changes, Done, Side, Wishes, folder_words
 from lisfs.folder.entries import Entries, Entry
 from lisfs.folder.forms import folder_value
 from lisfs.folder.memory import Memory, Records
+from lisfs.folder.needs import can_be_lean
 from lisfs.folder.options import at_least_one, day, part_or_number
 from lisfs.folder.private import private_copy
 from lisfs.folder.report import Telling, counted, left_out
 from lisfs.folder.room import RESERVE, Room, beside_free, kept_free, needed
 from lisfs.limits import LARGEST, TIMES, Limits, beyond, limits_of, roomy
 from lisfs.making import kept_names
+from lisfs.progress import Progress
 from lisfs.showing import harmless, write_line
 from lisfs.words import PLAIN_FORM, PLAIN_RUN
 
-STOPS = (signal.SIGTERM, signal.SIGHUP)
 # What is counted, and the words of the report.
 COUNTED = {Done.NEW: "new", Done.CHANGED: "changed", Done.MOVED: "moved", Done.WORDS: "with other words", Done.GONE: "gone",
            Done.OLD: "removed as older"}
@@ -108,10 +111,6 @@ ONE_SIDE = re.compile(r"--(ours|theirs)=(.+)", re.S)
 
 class Failed(Exception):
     """What is wrong, in one line."""
-
-
-class Stopped(BaseException):
-    """A signal came that ends this program."""
 
 
 def default_name(folder: str) -> bytes:
@@ -131,6 +130,7 @@ class Options(argparse.Namespace):
     reserve: Fraction
     flat: bool
     lean: bool
+    threads: bool
     dry_run: bool
     verbose: bool
     all_gone: bool
@@ -153,14 +153,17 @@ class Sync:
         # Why what was brought in could not be kept, and what earlier runs brought in, if it is known.
         self.unkept: str | None = None
         self.known: Records | None = None
-        # How many files of each kind were done, and how many in all.
-        self.counts, self.done = dict.fromkeys(COUNTED, 0), 0
+        # How many files of each kind were done, and how far the changes are.
+        self.counts = dict.fromkeys(COUNTED, 0)
+        self.work = Progress(telling.line, "changing")
         # The entries so far, for a report after an early end.
         self.entries: Entries | None = None
         self.plan: Changes | None = None
         self.carrying: Carrying | None = None
         # Why an image that was made has its limits.
         self.why = ""
+        # Whether it was said before the first change that words will run short.
+        self.is_foretold = False
 
     def run(self) -> None:
         if what := missing():
@@ -173,13 +176,11 @@ class Sync:
                 room = self.look()
             else:
                 if self.words.dry_run:
-                    self.telling.clear()
                     self.path = stack.enter_context(private_copy(self.image))
                 room = self.look()
                 entries, remembered = self.read(room.limits.file_bytes)
             if not self.words.dry_run:
                 remembered.save()
-            self.telling.clear()
             program, dump = opening.opened("sync", self.path, session_word(), with_digests=True)
             with program:
                 # What another client changes from now on is not overwritten.
@@ -205,15 +206,8 @@ class Sync:
 
     def choose(self, entries: Sequence[Entry]) -> Limits:
         """The limits of an image for the folder, which has room for it three times over, or as much as an image can have."""
-        files = 0
-
-        def looked() -> None:
-            nonlocal files
-            files += 1
-            self.telling.progress(lambda: f"words of {counted(files, 'file')} counted")
-
-        need = needed(entries, self.marker, self.words.lean, looked)
-        self.telling.clear()
+        with Progress(self.telling.line, "counting words", len(entries)) as work:
+            need = needed(entries, self.marker, self.words.lean, lambda: work.add(1))
         if lacks := beyond(need):
             raise Failed(f"nothing was made: {harmless(self.folder)} has {'; '.join(map(str, lacks))}: --newest N takes the newest, and several images "
                          "hold more (docs/guide/other-machines.md)")
@@ -234,28 +228,23 @@ class Sync:
 
     def read(self, largest: int) -> tuple[Entries, Cache]:
         """Looks at the files of the folder."""
-        looked = 0
-
-        def look() -> None:
-            nonlocal looked
-            looked += 1
-            self.telling.progress(lambda: f"{counted(looked, 'file')} looked at")
-
         remembered: Cache = Nothing()
         if not self.words.no_cache:
             remembered = Remembered(self.folder)
         folders = no_words if self.words.flat else folder_words
-        self.entries = entries = Entries(self.folder, largest, folders, self.telling.leave, look, self.words.without, own_files(self.image), remembered)
+        self.entries = entries = Entries(self.folder, largest, folders, self.telling.leave, self.telling.line, self.words.without,
+                                         own_files(self.image), remembered, self.words.threads)
         entries.read()
         entries.choose(self.words.since, self.words.newest)
         return entries, remembered
 
     def make_plan(self, entries: Entries, dump: Dump, program: Program) -> Changes:
         named = {within(self.folder, path): side for path, side in self.words.named.items()}
-        wishes = Wishes(self.words.side, named, self.words.restore)
+        wishes = Wishes(self.words.side, named, self.words.restore, self.words.threads)
         self.known = self.memory.read(dump.declared)
-        plan = Changes(entries.all, dump, self.marker, self.words.lean, self.known, wishes, entries.walk.is_blind, lambda name: program.cat(name).body,
-                       self.folder)
+        with Progress(self.telling.line, "comparing", len(entries.all)) as work:
+            plan = Changes(entries.all, dump, self.marker, self.words.lean, self.known, wishes, entries.walk.is_blind,
+                           lambda name: program.cat(name).body, self.folder, work.add)
         if plan.own and not plan.kept and not plan.is_blind and not self.words.all_gone:
             raise Failed(f"nothing was done: none of the {counted(plan.own, 'file')} of {self.marker.decode()} is in {self.folder} any "
                          "more; --all-gone removes them anyway")
@@ -265,7 +254,9 @@ class Sync:
         return plan
 
     def carry(self, program: Program, plan: Changes, room: Room) -> None:
-        self.carrying = carrying = Carrying(Sender(program), plan, room, self.told, self.failed)
+        self.work = Progress(self.telling.line, "changing", len(plan.changes) + len(plan.gone), plan.size())
+        self.carrying = carrying = Carrying(Sender(program, self.work.add), plan, room, self.told, self.failed, self.runs_short)
+        self.foretell(carrying)
         carrying.declare()
         before, coming = set(carrying.memories), None
         if not plan.is_nothing():
@@ -276,6 +267,22 @@ class Sync:
             is_other = self.remember(carrying, plan.seen()) != coming and coming is not None and coming not in before
             if is_other and coming is not None and not self.words.dry_run:
                 self.memory.forget(coming)
+
+    def foretell(self, carrying: Carrying) -> None:
+        """Says before the first change that there are not enough words for all, if --lean needs fewer."""
+        with Progress(self.telling.line, "counting words", sum(change.is_new for change in carrying.plan.changes)) as work:
+            needs = carrying.needs(work.add)
+        if needs and needs.helps():
+            self.is_foretold = True
+            self.telling.tell(f"{harmless(self.image)}: not enough known words ({counted(needs.files, 'new file')} need {needs.words:,}, and "
+                              f"{needs.free:,} are free): --lean needs {needs.lean:,}{', also too many' if needs.lean > needs.free else ''}: {lean_command()}")
+
+    def runs_short(self, begun: int) -> None:
+        """Says in the middle of a run that words run short, if --lean helps and this was not foretold."""
+        if self.carrying and can_be_lean(self.carrying.plan) and not self.is_foretold:
+            room = self.carrying.room
+            self.telling.tell(f"{harmless(self.image)}: known words run short after {begun:,} of {len(self.carrying.plan.changes):,} changes "
+                              f"({room.limits.words:,} in all, {room.reserve:,} of them kept free): --lean needs fewer: {lean_command()}")
 
     def remember(self, carrying: Carrying, records: Records) -> bytes | None:
         """Keeps what was brought in, and makes the image name it by a word, which it returns. If that is impossible, the image names nothing."""
@@ -289,7 +296,7 @@ class Sync:
         return word
 
     def told(self, what: Done, name: bytes, more: str = "") -> None:
-        self.count()
+        self.work.add(1)
         if what is not Done.SAME:
             self.counts[what] += 1
             self.telling.tell_file(f"{what.value}: {name.decode()}" + (f": {harmless(more)}" if more else ""))
@@ -297,14 +304,8 @@ class Sync:
             self.plan.same += 1
 
     def failed(self, path: str, why: str) -> None:
-        self.count()
+        self.work.add(1)
         self.telling.leave(path, why)
-
-    def count(self) -> None:
-        self.done += 1
-        if self.plan:
-            total = len(self.plan.changes) + len(self.plan.gone)
-            self.telling.progress(lambda: f"{self.done} of {total} changes")
 
     def report(self) -> None:
         """Prints the counts, as far as they are known."""
@@ -399,6 +400,14 @@ def is_missing(image: str) -> bool:
     return not os.path.lexists(image) and not os.path.lexists(socket_of(image))
 
 
+def lean_command() -> str:
+    """The command of this run, with --lean."""
+    # Few runs are short of words.
+    import shlex
+    tool, *words = sys.argv
+    return harmless(shlex.join([tool, "--lean", *words]))
+
+
 def own_files(image: str) -> list[os.stat_result]:
     """The image, its socket if it is served, and those from before it was enlarged: none of them is one of the folder's files."""
     found: list[os.stat_result] = []
@@ -436,10 +445,6 @@ def cause(error: BaseException, image: str) -> str:
     return str(error)
 
 
-def stop(*_: object) -> NoReturn:
-    raise Stopped
-
-
 def apart(given: Sequence[str]) -> tuple[list[str], list[tuple[str, Side]]]:
     """The words of a command line without those that settle one conflict, and these: each a path and a side."""
     end = given.index("--") if "--" in given else len(given)
@@ -457,6 +462,7 @@ def options() -> Options:
     parser.add_argument("--reserve", type=part_or_number, default=RESERVE)
     parser.add_argument("--flat", action="store_true")
     parser.add_argument("--lean", action="store_true")
+    parser.add_argument("--threads", action="store_true")
     parser.add_argument("--dry-run", action="store_true")
     parser.add_argument("--verbose", action="store_true")
     parser.add_argument("--all-gone", action="store_true")
@@ -487,10 +493,7 @@ def main() -> int:
     if fault := folder_fault(words.folder):
         write_line(sys.stderr, f"sync: {fault}")
         return 2
-    for number in STOPS:
-        # A signal that is ignored, as by `nohup`, stays ignored.
-        if signal.getsignal(number) == signal.SIG_DFL:
-            signal.signal(number, stop)
+    stop_at_signals()
     telling = Telling("sync", sys.stdout, words.verbose or words.dry_run)
     syncing = Sync(words, telling)
     amiss: str | None = None
@@ -501,7 +504,7 @@ def main() -> int:
     except (Ended, Failed, NoRoom, NotADump, NotAReply, OSError, RuntimeError, KeyboardInterrupt, Stopped) as error:
         amiss = cause(error, words.image).replace(syncing.path, words.image)
         amiss += "; the next run goes on" if syncing.carrying and not words.dry_run else ""
-    telling.clear()
+    telling.line.clear()
     syncing.report()
     sys.stdout.flush()
     if amiss:
