@@ -22,30 +22,48 @@ TABLES = (
 BY_WORD = "CREATE INDEX by_word ON has(word);"
 # The words that some files have and not all, as a listing of the root shows them.
 SHOWN = "SELECT word FROM has GROUP BY word HAVING count(*) < (SELECT count(*) FROM file);\n"
+# The most seconds between two looks at a process that is watched.
+LOOK = 0.005
 HAS_SQLITE = shutil.which("sqlite3") is not None
 
 
 class Ran(NamedTuple):
-    """What a command took, with all processes that it waited for: seconds by the clock and of processor time, and the most memory of one process. Its
-    exit status, and what it showed."""
+    """What a command took, with all processes that it waited for: seconds by the clock and of processor time. Its exit status, and what it showed. If it
+    was watched, the most mebibytes of it and of each of its children."""
 
     seconds: float
     processor: float
-    mebibytes: float
     status: int
     out: bytes
+    mebibytes: tuple[float, ...] = ()
 
 
-def ran(command: Sequence[str], data: bytes = b"", environment: dict[str, str] | None = None) -> Ran:
-    """Runs a command over an input. Its errors go where those of this process go."""
+def ran(command: Sequence[str], data: bytes = b"", environment: dict[str, str] | None = None, is_watched: bool = False) -> Ran:
+    """Runs a command over an input. Its errors go where those of this process go. To watch it takes some processor time of this process."""
     with given(data) as source, tempfile.TemporaryFile() as shown:
         begin = time.monotonic()
         with subprocess.Popen(command, stdin=source, stdout=shown, env=environment) as child:
+            held = watched(child.pid) if is_watched else ()
             _, status, usage = os.wait4(child.pid, 0)
             child.returncode = os.waitstatus_to_exitcode(status)
         seconds = time.monotonic() - begin
         shown.seek(0)
-        return Ran(seconds, usage.ru_utime + usage.ru_stime, usage.ru_maxrss / 1024, child.returncode, shown.read())
+        return Ran(seconds, usage.ru_utime + usage.ru_stime, child.returncode, shown.read(), held)
+
+
+def watched(process: int) -> tuple[float, ...]:
+    """The most mebibytes of a process and of each of its children, as far as was seen before it ended. What `wait4` says would count those of this
+    process too, which was copied."""
+    held: dict[int, float] = {}
+    begin = time.monotonic()
+    while os.waitid(os.P_PID, process, os.WEXITED | os.WNOHANG | os.WNOWAIT) is None:
+        # A process that has just ended has no memory.
+        with contextlib.suppress(OSError):
+            with open(f"/proc/{process}/task/{process}/children", encoding="ascii") as children:
+                for one in (process, *map(int, children.read().split())):
+                    held[one] = resident(one)
+        time.sleep(min(LOOK, (time.monotonic() - begin) / 10))
+    return tuple(held.values())
 
 
 @contextlib.contextmanager
@@ -103,7 +121,8 @@ def resident(process: int) -> float:
     """The most mebibytes of a process that runs that were resident so far."""
     with open(f"/proc/{process}/status") as status:
         found = re.search(r"VmHWM:\s*(\d+)", status.read())
-    assert found
+    if not found:
+        raise ProcessLookupError(process)
     return int(found[1]) / 1024
 
 
