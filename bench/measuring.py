@@ -195,10 +195,15 @@ def database(folder: str, files: int, words: int) -> str:
     return base
 
 
+def query_cost(base: str, query: str, count: int, first: str = "") -> tuple[float, ...]:
+    """Seconds, as from `spent`, of one of the `count` queries of a session that begins with others, less those of a session without these queries."""
+    empty, whole = (spent(["sqlite3", base], data) for data in (first.encode(), first.encode() + query.encode() * count))
+    return tuple(seconds / count for seconds in less(whole, empty))
+
+
 def query_time(base: str, query: str, count: int) -> float:
-    """Seconds of one of N queries, less those of a session without any."""
-    empty, whole = (spent(["sqlite3", base], data)[0] for data in (b"", query.encode() * count))
-    return (whole - empty) / count
+    """The same by the clock."""
+    return query_cost(base, query, count)[0]
 
 
 def sync_time(folder: str, count: int = 50) -> float:
