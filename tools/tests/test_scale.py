@@ -2,18 +2,22 @@
 import hashlib
 import os
 import random
+import re
 import shutil
 import subprocess
 import sys
 
 import pytest
-from scaling import comparing, facts, making
+from scaling import comparing, facts, growth, making
 from scaling.in_lisfs import Lisfs
 from scaling.systems import Wrong
 
 import support
 from support.images import session
 from support.waiting import LONG
+
+sys.path.append(os.path.join(support.TOP, "docs"))
+import curves  # noqa: E402, a module beside the pages
 
 SCALE = os.path.join(support.TOP, "bench", "scale")
 # At most 64 files, and fewer words than 64 files of the made set have.
@@ -86,6 +90,34 @@ def test_what_is_missing_is_skipped(needs):
     os.remove("bin/sqlite3")
     ran = scale("--files", "30", "--only", "made", "top", path=os.path.abspath("bin"))
     assert ran.returncode == 0 and "SQLite is skipped: no sqlite3 (Debian's sqlite3)" in ran.stdout and "| LISFS |\n" in ran.stdout, ran
+
+
+@pytest.mark.usefixtures("program")
+def test_growth(needs):
+    needs("sqlite3")
+    ran = scale("--growth", "--first", "64", "--files", "128", "top")
+    assert ran.returncode == 0, ran
+    tables = [lines.strip().splitlines() for lines in ran.stdout.split("\n\n") if lines.strip().startswith("|")]
+    assert [lines[0].split(",")[0] for lines in tables] == [f"| {measure}" for measure in growth.MEASURES], "a table for each measure"
+    for lines in tables:
+        rows = [[cell.strip() for cell in line.strip("|").split("|")] for line in lines]
+        assert [row[:2] for row in rows[2:]] == [["64", "64"], ["128", "64"], ["128", "128"]], "first the files grow, and then the words"
+        assert rows[0][2:] == ["LISFS", "SQLite", "notmuch"][:2 + bool(shutil.which("notmuch"))], lines
+        assert all(float(cell) >= 0 for row in rows[2:] for cell in row[2:]), lines
+
+
+def test_curves_of_growth():
+    table = "milliseconds of a listing, files", [dict(zip(("milliseconds of a listing, files", "words", "LISFS", "SQLite"), cells)) for cells in (
+        ("64", "64", "0.02", "0.30"), ("128", "64", "0.03", "0.60"), ("128", "128", "1.50", "1.40"))]
+    shapes, _ = curves.panel(table, 0, curves.Curves("Milliseconds", table[0], "words", "files"))
+    lines = [re.search('points="(.*)"', shape)[1] for shape in shapes if shape.startswith("<polyline")]
+    heights = [[float(place.split(",")[1]) for place in line.split()] for line in lines]
+    assert [len(line) for line in heights] == [2, 2], "the rows with the most files"
+    assert heights[0][1] < heights[0][0] and heights[1][1] < heights[1][0], "more is higher"
+    names = {text: float(re.search('y="(.*?)"', shape)[1]) for shape in shapes for text in re.findall(">(LISFS|SQLite)</text>", shape)}
+    assert abs(names["LISFS"] - names["SQLite"]) >= curves.NAME, "each line is named, and no name covers another"
+    numbers = [text for shape in shapes for text in re.findall(r">([\d.,]+)</text>", shape)]
+    assert numbers == ["0.01", "0.1", "1", "10", "128", "64"], "plain numbers"
 
 
 @pytest.mark.usefixtures("program")
