@@ -58,6 +58,7 @@ def compare(wish: Wish) -> None:
     for system in systems:
         lack = system.lacks()
         print(f"  {system.name}{f' is skipped: {lack}' if lack else f': {system.told}'}", flush=True)
+    print("  TMSU is skipped: it can't be asked yet", flush=True)
     systems = [system for system in systems if not system.lacks()]
     brought: list[list[Ran]] = rounds(wish.bringing, [functools.partial(system.bring, folder, facts, wish.version) for system in systems])
     disk = {system: system.bytes_on_disk() for system in systems}

@@ -1,4 +1,4 @@
-"""What a program is asked that keeps a collection: `in_lisfs`, `in_sqlite`, `in_notmuch` and `in_tmsu` are such programs.
+"""What a program is asked that keeps a collection: `in_lisfs`, `in_sqlite` and `in_notmuch` are such programs.
 
 A system that can't answer a question returns None, and one that can't make a change returns False.
 """
