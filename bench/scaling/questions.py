@@ -118,7 +118,7 @@ def files_by_word(facts: Iterable[Fact]) -> dict[bytes, list[bytes]]:
 
 
 def most_frequent(by_word: dict[bytes, list[bytes]], head: bytes, files: int) -> bytes:
-    """The value of a head that most files have, and not all of so many, or else any."""
+    """The value of a head that the most files have. One that all of these files have is taken only if there is no other."""
     values = [word for word in by_word if word.startswith(head) and word != head]
     return max(values, key=lambda word: (len(by_word[word]) < files, len(by_word[word]), word))
 
@@ -129,12 +129,11 @@ def three_words(facts: Iterable[Fact], by_word: dict[bytes, list[bytes]], heads:
         words = [word for word in fact.words if word.startswith(tuple(heads)) and word not in heads]
         return sorted(words, key=lambda word: (-len(by_word[word]), word))[:3]
 
-    # Of several heads one word each is had by a file, and these are three.
     return max((best(fact) for fact in facts), key=lambda words: (len(words), sum(len(by_word[word]) for word in words), words))
 
 
 def many(by_word: dict[bytes, list[bytes]], head: bytes) -> tuple[Place, Names]:
-    """A place of some values of a head, and its files, up to as many as are tagged at once."""
+    """A place of some values of a head, the most frequent first, and its files: no more than are tagged at once."""
     words: list[bytes] = []
     names: Names = set()
     for word in sorted((word for word in by_word if word.startswith(head) and word != head), key=lambda word: (-len(by_word[word]), word)):
