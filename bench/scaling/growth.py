@@ -24,6 +24,8 @@ PROCESSES = 5
 LEAST = 64
 MEASURES = ("milliseconds of a listing", "milliseconds of a change", "milliseconds of an opening", "MiB with a listing")
 SCALES = (1_000, 1_000, 1_000, 1)
+# What is less is within the variation of an opening, and a logarithmic axis has no zero.
+LEAST_SHOWN = 0.01
 
 
 class Point(NamedTuple):
@@ -159,4 +161,4 @@ def grow(top: str, version: Version, count: int, first: int = FIRST) -> None:
     for place, measure in enumerate(MEASURES):
         table(f"{measure}, files", "words", *kinds)
         for point, costs in found:
-            row(f"{point.files:,}", f"{point.words:,}", *(f"{one[place] * SCALES[place]:.{2 if place < 3 else 1}f}" for one in costs))
+            row(f"{point.files:,}", f"{point.words:,}", *(f"{max(one[place] * SCALES[place], LEAST_SHOWN):.{2 if place < 3 else 1}f}" for one in costs))

@@ -103,7 +103,7 @@ def test_growth(needs):
         rows = [[cell.strip() for cell in line.strip("|").split("|")] for line in lines]
         assert [row[:2] for row in rows[2:]] == [["64", "64"], ["128", "64"], ["128", "128"]], "first the files grow, and then the words"
         assert rows[0][2:] == ["LISFS", "SQLite", "notmuch"][:2 + bool(shutil.which("notmuch"))], lines
-        assert all(float(cell) >= 0 for row in rows[2:] for cell in row[2:]), lines
+        assert all(float(cell) > 0 for row in rows[2:] for cell in row[2:]), lines
 
 
 def test_curves_of_growth():
