@@ -12,6 +12,7 @@ from lisfs.folder.changes import MARKER, folder_words
 from lisfs.folder.entries import Entries, Entry
 from lisfs.folder.walk import content
 from lisfs.words import head_of
+from lisfs.progress import Line
 
 NAME = "bench"
 OWN_WORD = MARKER + b":" + NAME.encode()
@@ -59,7 +60,7 @@ class Room(NamedTuple):
 
 def entries_of(folder: str, largest: int) -> Sequence[Entry]:
     """The files of a folder that are at most this large. Those that can't be taken have a `problem`."""
-    entries = Entries(folder, largest, folder_words, lambda path, why: None, lambda: None)
+    entries = Entries(folder, largest, folder_words, lambda path, why: None, Line("scale"))
     entries.read()
     return entries.all
 

@@ -7,7 +7,7 @@ from collections.abc import Sequence
 import support
 from lisfs import dumps
 from lisfs.client import PROGRAM, Program, Retag, always, missing
-from lisfs.image import limits_of
+from lisfs.limits import limits_of
 from lisfs.shell.session import Session
 from measuring import Ran, ran
 from scaling.facts import NAME, Fact, Version
