@@ -11,8 +11,8 @@ from lisfs import constants, derived
 from lisfs.folder.changes import MARKER, folder_words
 from lisfs.folder.entries import Entries, Entry
 from lisfs.folder.walk import content
-from lisfs.words import head_of
 from lisfs.progress import Line
+from lisfs.words import head_of
 
 NAME = "bench"
 OWN_WORD = MARKER + b":" + NAME.encode()
