@@ -10,13 +10,13 @@ LAST = ["Groß", "Müller", "Adams", "Nuñez", "Smith", "Østergaard", "Kowalski
 BOXES = ["", ".Work", ".Work.Plans", ".Lists.dev", ".Entw&APw-rfe", ".Archive"]
 
 
-def encoded(text, chance):
+def encoded(text: str, chance: random.Random) -> str:
     """A text of a header, encoded if necessary, in one of the usual ways."""
     charset = "utf-8" if any(ord(letter) > 255 for letter in text) else chance.choice(["utf-8", "iso-8859-1"])
     return email.header.Header(text, None if text.isascii() else charset, maxlinelen=76).encode()
 
 
-def make_mails(top, count):
+def make_mails(top: str, count: int) -> None:
     chance = random.Random(38)
     vocabulary = ["".join(chance.choices(PARTS, k=chance.randint(2, 3))) for _ in range(2_500)]
     weights = [1 / (rank + 3) for rank in range(len(vocabulary))]
@@ -39,7 +39,7 @@ def make_mails(top, count):
                   "MIME-Version: 1.0", "Content-Type: text/plain; charset=utf-8", "Content-Transfer-Encoding: 8bit"]
         if box == ".Lists.dev":
             header.append("List-Id: Development <dev.lists.example.net>")
-        body = []
+        body: list[str] = []
         while sum(map(len, body)) < 4_000:
             body.append(" ".join(chance.choices(vocabulary, weights, k=9)))
         with open(os.path.join(top, box, "cur", f"{1_700_000_000 + number}.M{number}.host:2,S"), "w", encoding="utf-8") as file:

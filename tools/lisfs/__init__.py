@@ -3,6 +3,7 @@
 What all tools share, each module using those above it:
 
 - `constants`: limits, built-in heads and refusals of the program, copied from its sources.
+- `limits`: limits of images, the smallest image that holds what is needed, and what helps if one is full.
 - `words`: the forms of words and of names of files.
 - `refusals`: what each refusal means.
 - `formulas`: the one reader of formulas.
@@ -12,7 +13,8 @@ What all tools share, each module using those above it:
 - `dumps`: what an image holds at the start.
 - `index`: which words each file has.
 - `image`: an open image, and the index in step with it.
+- `making`: makes an image whole or not at all.
 - `derived`: how many words a file would have on its own if none were cut.
 
-The tools: `folder` (`sync` and `import`), `mount`, `shell`, `web` (`browse`), `edit`, `serve` and `talk`.
+The tools: `folder` (`sync` and `import`), `mount`, `shell`, `web` (`browse`), `edit`, `enlarge`, `serve` and `talk`.
 """

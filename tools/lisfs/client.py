@@ -749,14 +749,15 @@ def only_reply(shown: bytes) -> Reply:
 
 
 @contextlib.contextmanager
-def held(image: str) -> Iterator[None]:
-    """Holds the lock of an image while the block runs, so that no program writes it in the meantime. Raises `Locked` if another program has it."""
+def held(image: str) -> Iterator[int]:
+    """Holds the lock of an image while the block runs, so that no program writes it in the meantime: by this descriptor. Raises `Locked` if another
+    program has it."""
     with open(image, "rb") as file:
         try:
             fcntl.flock(file, fcntl.LOCK_EX | fcntl.LOCK_NB)
         except BlockingIOError:
             raise Locked(3, f"lisfs: disk fault\n{image}: in use by another lisfs\n") from None
-        yield
+        yield file.fileno()
 
 
 def kill_after(child: subprocess.Popen[bytes], seconds: float) -> None:

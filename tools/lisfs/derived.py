@@ -38,17 +38,21 @@ Entry: TypeAlias = tuple[Kind, bytes]
 def derived_words(name: bytes, content: bytes) -> list[bytes]:
     """The words that a file of this name and these bytes would have automatically, each once, in the order in which the program takes them. For a
     long file, those of its beginning."""
-    suffix, size = suffix_of(name), len(content)
-    if size > LOOKED:
+    suffix, found = suffix_of(name), words_by_name(name, len(content))
+    if len(content) > LOOKED:
         # A token that is cut off is dropped.
         content = content[:LOOKED].rstrip(PLAIN_BYTES)
-    found = [b"ext:" + suffix] if suffix else []
-    found.append(next((word for most, word in SIZES if size <= most), b"size:large"))
     if suffix == b"eml":
         found += mail_words(content)
     elif suffix in (b"c", b"h"):
         found += source_words(content)
     return list(dict.fromkeys(word for word in found if len(word) <= MAX_WORD))
+
+
+def words_by_name(name: bytes, size: int) -> list[bytes]:
+    """The words of them that a file has by its name and its size."""
+    suffix = suffix_of(name)
+    return [*([b"ext:" + suffix] if suffix else []), next((word for most, word in SIZES if size <= most), b"size:large")]
 
 
 def has_many(name: bytes) -> bool:

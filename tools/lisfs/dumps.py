@@ -6,6 +6,7 @@ from collections.abc import Callable, Collection
 from typing import IO, NamedTuple, Protocol
 
 from lisfs.client import PROGRAM, Heed, Program, counts_in, no_heed, shown
+from lisfs.progress import Look, no_look
 
 # The clock of file times advances in steps of at most this many nanoseconds, or of two seconds if it has only whole seconds.
 STEP, WHOLE = 20_000_000, 2 * 10**9
@@ -62,8 +63,8 @@ class Dump:
         self.digests: dict[bytes, bytes] = {}
 
 
-def read_dump(stream: IO[bytes], with_digests: bool = False) -> Dump:
-    """Reads a dump from a binary stream: `mkdir`, `add`, `mv` and `axiom` lines.
+def read_dump(stream: IO[bytes], with_digests: bool = False, look: Look = no_look) -> Dump:
+    """Reads a dump from a binary stream: `mkdir`, `add`, `mv` and `axiom` lines. `look` is called for each file.
 
     The bytes of files are skipped, so that a large image takes little memory. A `mv` is read as a dump has it: from the root to a place of words.
     """
@@ -83,6 +84,7 @@ def read_dump(stream: IO[bytes], with_digests: bool = False) -> Dump:
             pass_over(stream, int(given[1]), digest)
             if digest:
                 dump.digests[given[0]] = digest.digest()
+            look(1, int(given[1]))
         elif command == b"mv" and len(given) == 2 and given[0] in dump.files:
             size, had = dump.files[given[0]]
             dump.files[given[0]] = Stored(size, had | frozenset(given[1].split(b"/")))
@@ -104,10 +106,10 @@ def pass_over(stream: IO[bytes], size: int, digest: Digest | None = None) -> Non
         raise NotADump("a byte other than a line feed after the bytes of a file")
 
 
-def dumped(image: str, with_digests: bool = False, unheard: Collection[signal.Signals] = (), heed: Heed = no_heed) -> Dump:
+def dumped(image: str, with_digests: bool = False, unheard: Collection[signal.Signals] = (), heed: Heed = no_heed, look: Look = no_look) -> Dump:
     """What an image holds."""
     with shown([PROGRAM, "dump", image], unheard, heed) as stream:
-        return read_dump(stream, with_digests)
+        return read_dump(stream, with_digests, look)
 
 
 def times_of(image: str) -> Times | None:
@@ -130,9 +132,9 @@ def settled(image: str) -> Times | None:
     return times
 
 
-def opened(image: str, tries: int = 8, word: str = "run", with_digests: bool = False) -> tuple[Program, Dump]:
+def opened(image: str, tries: int = 8, word: str = "run", with_digests: bool = False, look: Look = no_look) -> tuple[Program, Dump]:
     """A session that runs over an image, by this word of the program, and what the image holds. See `opened_by`."""
-    return opened_by(lambda: dumped(image, with_digests), lambda: started(image, word), image, tries)
+    return opened_by(lambda: dumped(image, with_digests, look=look), lambda: started(image, word), image, tries)
 
 
 def opened_by(look: Callable[[], Dump], start: Callable[[], Program], image: str, tries: int = 8) -> tuple[Program, Dump]:

@@ -19,6 +19,7 @@ status is that of the write.
 """
 from __future__ import annotations
 
+import contextlib
 import os
 import shlex
 import shutil
@@ -33,6 +34,7 @@ from typing import TypeVar
 from lisfs.client import Ended, Locked, NotAReply, Refused, missing
 from lisfs.constants import BAD_FORMULA, MAX_VIEW
 from lisfs.endings import NotJoined, quiet
+from lisfs.limits import full, limits_of
 from lisfs.parts import Changed, put, view
 from lisfs.refusals import without_blanks
 from lisfs.showing import harmless
@@ -101,7 +103,7 @@ def wrong_word(*words: str) -> str:
 def cause_of(error: Exception, image: str, name: str, formula: str) -> str:
     """What an error of the program means, in one line."""
     if isinstance(error, Refused):
-        hint = without_blanks(os.fsencode(formula).split()) if error.number == BAD_FORMULA else None
+        hint = without_blanks(os.fsencode(formula).split()) if error.number == BAD_FORMULA else told_full(error, image)
         return f"{name}: {hint or error}"
     if isinstance(error, Locked):
         return f"{image}: in use by another lisfs"
@@ -114,6 +116,14 @@ def cause_of(error: Exception, image: str, name: str, formula: str) -> str:
     if isinstance(error, OSError):
         return f"{error.filename}: {error.strerror}" if error.filename else error.strerror or str(error)
     return str(error)
+
+
+def told_full(refused: Refused, image: str) -> str | None:
+    """What a refusal of a full image says, with what helps; None for another one."""
+    with contextlib.suppress(OSError):
+        if found := full(refused.number, limits_of(image)):
+            return f"{refused}: the image has {found.most}, and {found.helps}"
+    return None
 
 
 def editor() -> list[str]:

@@ -11,6 +11,10 @@ from lisfs.client import Ended, Locked
 from lisfs.showing import harmless, write_line
 
 
+class Stopped(BaseException):
+    """A signal came that ends this tool."""
+
+
 class NotJoined(Ended):
     """There is a server, and this is no client of it, for a cause that one line states."""
 
@@ -51,6 +55,18 @@ def quiet(main: Callable[[], int]) -> Callable[[], int]:
             end_by_pipe()
 
     return run
+
+
+def stop_at_signals() -> None:
+    """From now on a signal that would end this tool raises `Stopped`, so that it can say what was done."""
+    for number in (signal.SIGTERM, signal.SIGHUP):
+        # A signal that is ignored, as by `nohup`, stays ignored.
+        if signal.getsignal(number) == signal.SIG_DFL:
+            signal.signal(number, stop)
+
+
+def stop(*_: object) -> NoReturn:
+    raise Stopped
 
 
 def end_by_pipe() -> NoReturn:

@@ -4,42 +4,23 @@ The image is locked by the session, so nobody else changes it; or it is served, 
 calls the session's place is the root, where all files are.
 """
 import contextlib
-import struct
 from collections.abc import Iterable, Iterator, Sequence
-from typing import TYPE_CHECKING, Generic, NamedTuple, TypeAlias, cast, overload
+from typing import TYPE_CHECKING, Generic, TypeAlias, cast, overload
 
 from lisfs.client import BodyLine, Program, Refused, Reply, as_lines, counts_in, item
-from lisfs.constants import MAX_FILE, MAX_LARGE_FILE, NO_FILE_HERE
+from lisfs.constants import NO_FILE_HERE
 from lisfs.dumps import Dump
 from lisfs.index import F, File, Index, Kind
+from lisfs.limits import Limits
 from lisfs.words import is_test
 
 if TYPE_CHECKING:
     from lisfs.served import News
 
-# The most bytes of a file, by the version of the image.
-FILE_BYTES = {1: MAX_FILE, 2: MAX_LARGE_FILE}
 ROOT = b"/"
 
 # The words of a command.
 Words: TypeAlias = Sequence[bytes]
-
-
-class Limits(NamedTuple):
-    """The most files, known words and blocks of an image, and the most bytes of a file in it."""
-
-    files: int
-    words: int
-    blocks: int
-    file_bytes: int
-
-
-def limits_of(path: str) -> Limits:
-    """The limits in the first block of an image, which the program has checked."""
-    with open(path, "rb") as file:
-        head = file.read(25)
-    files, words, blocks = struct.unpack_from("<3I", head, 12)
-    return Limits(files, words, blocks, FILE_BYTES[2 if head[24] == 2 else 1])
 
 
 class Following(Generic[F]):

@@ -12,6 +12,9 @@ Count: TypeAlias = tuple[bytes, int]
 TITLES = {b"words": "Words", b"heads": "Heads", b"tests": "Sizes"}
 # The groups that come before those of heads.
 FIRST = {b"words": 0, b"heads": 1, b"tests": 2}
+# Heads of words that `tools/sync` and `tools/import` read from a mail, decoded and for a person, come before all others. Those that the program reads
+# from its raw header come after all others.
+READABLE, RAW = frozenset((b"who:", b"about:", b"thread:")), frozenset((b"from:", b"to:", b"subject:"))
 
 
 def kind_of(word: bytes) -> bytes:
@@ -22,15 +25,27 @@ def kind_of(word: bytes) -> bytes:
     return b"words" if head is None else b"heads" if head == word else head
 
 
+def rank_of(word: bytes) -> int:
+    """Where a word is shown among others: first words without a head, and then values and heads by how useful their head is to a person."""
+    head = head_of(word)
+    return 0 if head is None else 1 if head in READABLE else 3 if head in RAW else 2
+
+
+def by_rank(words: Iterable[bytes]) -> list[bytes]:
+    """Words as they are shown in one list: in byte order within each rank."""
+    return sorted(words, key=lambda word: (rank_of(word), word))
+
+
 def groups_of(words: Iterable[Count], wanted: bytes = b"") -> list[tuple[bytes, list[Count]]]:
-    """The words of a listing that contain a text, by their groups, each with the most frequent first."""
+    """The words of a listing that contain a text, by their groups, the more useful heads first; each group has the most frequent first."""
     found, wanted = collections.defaultdict(list), wanted.lower()
     for word, count in words:
         if wanted in word.lower():
             found[kind_of(word)].append((word, count))
     for group in found.values():
-        group.sort(key=lambda entry: (-entry[1], entry[0]))
-    return sorted(found.items(), key=lambda group: (FIRST.get(group[0], 3), -group[1][0][1], group[0]))
+        # Of one head all have the same rank.
+        group.sort(key=lambda entry: (rank_of(entry[0]), -entry[1], entry[0]))
+    return sorted(found.items(), key=lambda group: (FIRST.get(group[0], 3), rank_of(group[0]), -group[1][0][1], group[0]))
 
 
 def within(group: bytes, word: bytes) -> bytes:

@@ -14,6 +14,7 @@ from typing import TYPE_CHECKING
 from lisfs import dumps
 from lisfs.client import PROGRAM, Program, socket_of
 from lisfs.dumps import Dump
+from lisfs.progress import Line, Progress
 from lisfs.showing import harmless, write_line
 
 if TYPE_CHECKING:
@@ -21,48 +22,22 @@ if TYPE_CHECKING:
 
 # After how many seconds the line is shown.
 LONG = 1.0
-# Removes a line from a terminal.
-CLEAR = "\r\033[K"
-
-
-class Line:
-    """The line, which is removed once the image is open."""
-
-    def __init__(self, tool: str, image: str) -> None:
-        self._text, self._is_shown, self._is_over, self._lock = f"{tool}: opening {harmless(image)} ...", False, False, threading.Lock()
-
-    def show(self) -> None:
-        with self._lock:
-            if not self._is_over:
-                self._is_shown = True
-                put(self._text)
-
-    def end(self) -> None:
-        with self._lock:
-            self._is_over = True
-            if self._is_shown:
-                put(CLEAR)
-
-
-def put(text: str) -> None:
-    """Writes to the terminal, which may be gone."""
-    with contextlib.suppress(OSError):
-        sys.stderr.write(text.encode(sys.stderr.encoding, "backslashreplace").decode(sys.stderr.encoding))
-        sys.stderr.flush()
 
 
 @contextlib.contextmanager
-def waiting(tool: str, image: str) -> Iterator[None]:
-    """While the block runs, a line on a terminal says after a second that the image opens."""
-    if not sys.stderr or not sys.stderr.isatty():
-        yield
+def waiting(tool: str, image: str) -> Iterator[Progress]:
+    """While the block runs, a line on a terminal says after a second that the image opens, and how much of it was read."""
+    line = Line(tool, after=LONG)
+    work = Progress(line, f"opening {harmless(image)}")
+    if not line.is_terminal:
+        yield work
         return
-    line = Line(tool, image)
-    timer = threading.Timer(LONG, line.show)
+    # While a journal is replayed, nothing is read.
+    timer = threading.Timer(LONG, work.show)
     timer.daemon = True
     timer.start()
     try:
-        yield
+        yield work
     finally:
         timer.cancel()
         line.end()
@@ -93,17 +68,17 @@ def joined(tool: str, image: str) -> Session | None:
 
 def opened(tool: str, image: str, word: str = "run", with_digests: bool = False) -> tuple[Program, Dump]:
     """A session over an image, by this word of the program if nobody serves it, and what the image holds."""
-    with waiting(tool, image):
+    with waiting(tool, image) as work:
         session = joined(tool, image)
-        return session or dumps.opened(image, word=word, with_digests=with_digests)
+        return session or dumps.opened(image, word=word, with_digests=with_digests, look=work.add)
 
 
 @contextlib.contextmanager
 def looked(tool: str, image: str) -> Iterator[Dump]:
     """What an image holds, with digests, for the block."""
-    with waiting(tool, image):
+    with waiting(tool, image) as work:
         session = joined(tool, image)
-        dump = session.dump if session else dumps.dumped(image, with_digests=True)
+        dump = session.dump if session else dumps.dumped(image, with_digests=True, look=work.add)
     with contextlib.ExitStack() as stack:
         if session:
             stack.enter_context(session.program)

@@ -470,8 +470,8 @@ def opened(image: str, signals: Signals) -> tuple[Program, History]:
         signals.end(program.kill_after)
         return program
 
-    with waiting("serve", image):
-        program, dump = opened_by(lambda: dumped(image, False, STOPS, signals.end), start, image)
+    with waiting("serve", image) as work:
+        program, dump = opened_by(lambda: dumped(image, False, STOPS, signals.end, work.add), start, image)
     return program, History(dump, image)
 
 

@@ -1,4 +1,5 @@
 """Shows names, words and contents so that they do nothing to a terminal. All text that does not come from a tool itself is shown this way."""
+import itertools
 import re
 from typing import TextIO
 
@@ -24,6 +25,27 @@ def harmless(data: bytes | str, kept: str = "") -> str:
         return f"\\x{number:02x}" if number < 256 else f"\\u{number:04x}" if number < 65_536 else f"\\U{number:08x}"
 
     return PLAIN.sub(shown, data if isinstance(data, str) else data.decode("utf-8", "surrogateescape"))
+
+
+def columns_of(text: str) -> int:
+    """How many columns of a terminal a text takes that `harmless` has made."""
+    return len(text) if text.isascii() else sum(map(width_of, text))
+
+
+def width_of(letter: str) -> int:
+    """The same for a letter: two if it is wide, and none if it is a mark over the letter before."""
+    # Most texts need no table of letters.
+    import unicodedata
+    return 0 if unicodedata.combining(letter) else 2 if unicodedata.east_asian_width(letter) in "WF" else 1
+
+
+def cut_to(text: str, columns: int) -> str:
+    """A text, cut to a number of columns if it takes more; two full stops are its end then."""
+    if columns_of(text) <= columns:
+        return text
+    end = ".."[:max(columns, 0)]
+    room = columns - len(end)
+    return text[:next(at for at, width in enumerate(itertools.accumulate(map(width_of, text))) if width > room)] + end
 
 
 def write_line(stream: TextIO, data: bytes | str, kept: str = "") -> None:

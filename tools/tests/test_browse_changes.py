@@ -10,7 +10,7 @@ import pytest
 
 from lisfs.client import PROGRAM, Ended, NotAReply, NotSent, Refused, shown_by
 from lisfs.dumps import opened
-from lisfs.image import limits_of
+from lisfs.limits import limits_of
 from lisfs.refusals import REFUSALS
 from lisfs.web import site
 from lisfs.web.image import Differs, Image
@@ -86,8 +86,9 @@ def test_changes(small):
 def test_a_full_image(small):
     _, visitor = small
     token = visitor.token()
-    statuses = [visitor.upload({**token, "at": "/"}, b"x" * 65_536, name).status for name in (b"w", b"y", b"z")]
-    assert statuses == [303, 303, 409]
+    answers = [visitor.upload({**token, "at": "/"}, b"x" * 65_536, name) for name in (b"w", b"y", b"z")]
+    assert [answer.status for answer in answers] == [303, 303, 409]
+    assert b"It has at most" in answers[-1].data and b"`tools/enlarge " in answers[-1].data, "and what helps"
 
 
 # Refusals, which change nothing.

@@ -374,7 +374,8 @@ def test_refused_at_put(notes, name):
 def test_more_than_there_are_blocks(notes):
     make("small", limits=("64", "64", "1"))
     text = b"@1 2\n+" + b"x" * 5000
-    keeps("more than there are blocks", edit(f"open(path, 'wb').write({text!r})\n", image="small"), "notes.txt: no 24 no space", text)
+    keeps("more than there are blocks", edit(f"open(path, 'wb').write({text!r})\n", image="small"),
+          "notes.txt: no 24 no space: the image has at most 1 block, and `tools/enlarge small 64 64 2` makes room once no program has it open", text)
 
 
 @pytest.mark.parametrize("line", ([], ["image"], ["image", "notes.txt"], ["image", "notes.txt", "line:", "x/"], ["--help"]))

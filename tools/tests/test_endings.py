@@ -7,7 +7,7 @@ import sys
 
 import pytest
 
-from lisfs import opening
+from lisfs import progress
 from lisfs.endings import folder_fault
 from support import images, tool
 from support.mount.answers import MOUNT
@@ -115,7 +115,7 @@ def test_a_terminal_shows_that_an_image_opens(top, slow, words, wanted, end):
     """A line says so, and is removed again."""
     with Terminal([tool(words[0]), *words[1:]], **slow) as terminal:
         assert terminal.sees(f"{words[0]}: opening image ...".encode()), terminal.shown
-        assert terminal.sees(opening.CLEAR.encode()), terminal.shown
+        assert terminal.sees(progress.CLEAR.encode()), terminal.shown
         assert wanted is None or terminal.sees(wanted), terminal.shown
         if end:
             assert wanted or until(lambda: os.path.exists("image.socket"))

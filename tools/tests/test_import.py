@@ -223,7 +223,7 @@ def test_refusals_are_named(program, monkeypatch, capsys):
     """For what no image holds the report gives the cause, with the words that a refusal is about."""
     for number in range(70):
         written(f"top/d{number:02}/f", b"x")
-    monkeypatch.setattr(bring, "MAX_PROPS", 64)
+    monkeypatch.setattr(bring, "LARGEST", bring.LARGEST._replace(words=64))
     monkeypatch.setattr(sys, "argv", ["import", "--by-folder", "top"])
     assert bring.main() == 0
     said = capsys.readouterr().err

@@ -12,7 +12,7 @@ from http.cookiejar import CookieJar
 import pytest
 from support import TOP
 
-COMMANDS = ("browse", "edit", "import", "mount", "serve", "shell", "sync", "talk")
+COMMANDS = ("browse", "edit", "enlarge", "import", "mount", "serve", "shell", "sync", "talk")
 # What a build without network needs in the Python that runs this: its modules, by their packages of Debian.
 PACKAGES = {"venv": "python3-venv", "pip": "python3-pip", "setuptools": "python3-setuptools", "wheel": "python3-wheel"}
 

@@ -15,6 +15,7 @@ import pytest
 import support
 from lisfs.client import PROGRAM
 from lisfs.folder import cache, entries, mails, walk
+from lisfs.progress import Line
 from lisfs.words import is_assignable
 from support import images
 from support.costs import bounded
@@ -51,7 +52,7 @@ LINES = (b"a:\n", b"To: a\n", b" \n", b"\ta\n", b"From x\n", b"a:\r", b"From: a@
 
 def hostile():
     """The most expensive headers, by name."""
-    for field in (b"From", b"To", b"Cc", b"Subject", b"Date", b"Message-ID", b"List-Id"):
+    for field in (b"From", b"To", b"Cc", b"Subject", b"Date", b"Message-ID", b"List-Id", b"References", b"In-Reply-To"):
         for piece in PIECES:
             yield f"{field} of {piece[:20]}", field + b": " + filled(piece) + b"\n\nText.\n"
     for piece in LINES:
@@ -208,7 +209,7 @@ class Counted:
 def looked(top, is_kept=True):
     """What a run finds in a folder, which files it reads, and for which it keeps a record."""
     remembered = cache.Remembered(top) if is_kept else cache.Nothing()
-    found = entries.Entries(top, 1 << 20, lambda folders: [], lambda *_: None, lambda: None, remembered=remembered)
+    found = entries.Entries(top, 1 << 20, lambda folders: [], lambda *_: None, Line("sync"), remembered=remembered)
     with Counted() as counted:
         found.read()
     remembered.save()
@@ -340,7 +341,7 @@ def test_too_large():
     written("mail/cur/1:2,", mail(1, body="x" * 5_000))
     old_enough("mail")
     for largest, wanted in ((1_000, 1), (1_000, 0), (10_000, 1), (10_000, 0), (1_000, 0)):
-        found = entries.Entries("mail", largest, lambda folders: [], lambda *_: None, lambda: None, remembered=cache.Remembered("mail"))
+        found = entries.Entries("mail", largest, lambda folders: [], lambda *_: None, Line("sync"), remembered=cache.Remembered("mail"))
         with Counted() as counted:
             found.read()
         found._remembered.save()

@@ -83,7 +83,7 @@ def test_what_is_lost_at_the_end(mounted, target):
     ways.write(handle, bytes(60_000), 0)
     os.kill(mount.child.pid if target == "mount" else children(mount.child.pid)[0], signal.SIGTERM if target == "mount" else signal.SIGKILL)
     status, said = mount.ended()
-    assert status == 1 and said.startswith("mount: x: what was written and not closed is lost: "), (
+    assert status == 1 and any(line.startswith("mount: x: what was written and not closed is lost: ") for line in said.splitlines()), (
         f"what is lost at the end of the {target} is named", (status, said))
     told_by(ways.close, handle)
 
@@ -318,3 +318,16 @@ def test_six():
         assert sorted(ways.ls("out")) == sorted(kept), ("the files of six", ways.ls("out"))
         for name, number in kept.items():
             assert ways.get(name) == f"{name[0]} {number}\n".encode() * (1 + number * 50), ("the bytes of six", name)
+
+
+def test_a_full_image(program, fuse):
+    """An error has no place for what helps. The mount says it once for each limit."""
+    make("full", "64", "64", "1")
+    os.mkdir("folder")
+    mount, ways = Mount("full", "folder"), Real("folder")
+    for _ in range(2):
+        assert told_by(ways.put, "x", bytes(9_000)) == "ENOSPC"
+    for number in range(65):
+        told_by(ways.put, f"f{number}", b"")
+    assert mount.stop().text == ("mount: the image is full: at most 1 block: `tools/enlarge full 64 64 2` makes room once no program has it open\n"
+                                 "mount: the image is full: at most 64 files: `tools/enlarge full 128 64 1` makes room once no program has it open\n")

@@ -12,7 +12,7 @@ from lisfs import image as images, served
 from lisfs.client import Ended, Program, Refused
 from lisfs.dumps import Axiom, Dump, dumped, opened
 from lisfs.history import History, without_last_step
-from lisfs.image import limits_of
+from lisfs.limits import limits_of
 from support.peers import LIMITS, PWD, TALK, Peer, Served, drive, random_session, talked
 from support.waiting import until
 

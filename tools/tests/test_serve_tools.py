@@ -13,6 +13,7 @@ import support
 from lisfs import image as images_of
 from lisfs import opening, served
 from lisfs.folder import sync as syncing_module
+from lisfs.limits import limits_of
 from lisfs.mount.tree import KEPT_SECONDS
 from support import images
 from support.mount.answers import Mount, by_messages, told_by
@@ -127,7 +128,7 @@ def test_prompts_keep_in_step(seed, monkeypatch, image):
             known.append(({name: (file.size, file.given, file.words) for name, file in session.index.files.items()}, session.declared, session.axioms))
         program, dump = served.joined(image)
         with program:
-            fresh = images_of.Image(program, dump, images_of.limits_of(image))
+            fresh = images_of.Image(program, dump, limits_of(image))
             fresh.describe(fresh.index.files.values())
     files = {name: (file.size, file.given, file.words) for name, file in fresh.index.files.items()}
     assert known[0] == known[1] == (files, dump.declared, dump.axioms)

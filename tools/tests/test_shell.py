@@ -16,7 +16,7 @@ from lisfs import derived
 from lisfs.client import CONTENT, PROGRAM, Program, Refused, Replies, reply_of, shown_by
 from lisfs.constants import MAX_DERIVED
 from lisfs.dumps import dumped, opened
-from lisfs.image import limits_of
+from lisfs.limits import limits_of
 from lisfs.refusals import REFUSALS
 from lisfs.shell.commands import COMMANDS, OWN
 from lisfs.shell.completing import Completer

@@ -295,7 +295,7 @@ def test_no_question_in_vain(at_terminal):
                            (b"x" * 61, b"no word: `music`, `year:`, `year:2003` or a test"),
                            (b"a,b", b"a,b: no word: `music`"),
                            (b"size>=7", b"size>=7: a file has this by its size, and is not given it"),
-                           (b"year:77", b"year:77: the image has no room for more words: take some back, or take a larger image")):
+                           (b"year:77", b"year:77: the image has no room for more words (at most 64 known words): take some back; or `tools/enlarge image ")):
             at.types(b"tag %b in !music\n" % word)
             assert at.sees(told) is not None, (word, at.shown[-300:])
             at.sees(b"/> ")

@@ -4,7 +4,7 @@ import os
 
 import pytest
 
-from lisfs.showing import harmless, write_line
+from lisfs.showing import columns_of, cut_to, harmless, write_line
 
 LETTER = "\N{GREEK SMALL LETTER PI}"
 # Bytes, and how they are shown.
@@ -58,3 +58,17 @@ def test_a_line_of_which_something_is_kept():
     stream = io.StringIO()
     write_line(stream, b"a\n\x1b", "\n")
     assert stream.getvalue() == "a\n^[\n"
+
+
+WIDE, MARKED = "\N{CJK UNIFIED IDEOGRAPH-6F22}", "e\N{COMBINING ACUTE ACCENT}"
+
+
+def test_columns():
+    assert [columns_of(text) for text in ("", "plain", WIDE * 3, MARKED * 3, LETTER)] == [0, 5, 6, 3, 1]
+
+
+@pytest.mark.parametrize("text, columns, wanted", (
+    ("plain", 5, "plain"), ("plain", 4, "pl.."), ("plain", 2, ".."), ("plain", 1, "."), ("plain", 0, ""), ("plain", -1, ""), (WIDE * 3, 6, WIDE * 3),
+    (WIDE * 3, 5, WIDE + ".."), (WIDE * 3, 4, WIDE + ".."), (WIDE * 3, 3, ".."), (MARKED * 5, 5, MARKED * 5), (MARKED * 5, 4, MARKED * 2 + "..")))
+def test_cut(text, columns, wanted):
+    assert cut_to(text, columns) == wanted

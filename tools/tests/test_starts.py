@@ -8,6 +8,7 @@ from support import with_package
 # Modules that only some runs of a tool need, by tool.
 UNNEEDED = {
     "edit": ("dataclasses", "hashlib", "socket", "tempfile", "traceback", "lisfs.served"),
+    "enlarge": ("dataclasses", "hashlib", "socket", "tempfile", "traceback", "lisfs.served"),
     "folder.bring": ("email", "tempfile", "traceback", "lisfs.served"),
     "folder.sync": ("email", "socket", "tempfile", "traceback", "lisfs.served"),
     "mount.cli": ("array", "dataclasses", "socket", "tempfile", "traceback", "lisfs.refusals", "lisfs.served"),

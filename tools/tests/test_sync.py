@@ -2,7 +2,6 @@
 import contextlib
 import fcntl
 import os
-import pty
 import re
 import shutil
 import subprocess
@@ -206,7 +205,7 @@ def test_no_room_for_files(hundred):
     make("files", ("64", "1024", "512"))
     status, out, error = sync("--as", "m", "files", "mail")
     told = ["not taken: 36 no room for more files",
-            "limit reached: 64 files: --newest 64 keeps the newest; a larger image has more room (docs/guide/backup.md)"]
+            "limit reached: 64 files, and 100 are needed: --newest 64 keeps the newest; tools/enlarge files 128 1024 512 makes room"]
     assert (status, out, error) == (1, ["sync:m: 64 new, 0 as they were", *told], ""), "no room for files"
     assert sync("--as", "m", "files", "mail")[1] == ["sync:m: nothing changed, 64 as they were", *told], "again"
 
@@ -214,6 +213,7 @@ def test_no_room_for_files(hundred):
 def test_no_room_for_words(hundred):
     make("words", ("128", "128", "512"))
     status, out, error = sync("--as", "m", "--reserve", "0", "words", "mail")
+    assert out.pop(0).startswith("words: not enough known words (100 new files need "), "what is said before the run"
     assert (status, out[0], error) == (1, "sync:m: 100 new, 0 as they were", ""), "no room for words"
     assert (
         len(out) == 4 and re.fullmatch(r"[0-9]+ words of [0-9]+ files left out: no room for more words", out[1])
@@ -292,7 +292,7 @@ def test_wrong_use(with_a_file, words):
     assert sync(*words)[0] == 2, f"wrong use: {words}"
 
 
-@pytest.mark.parametrize("name, told", (("nosuch", "No such file"), ("top/f", "image too short"), ("top", "Is a directory")))
+@pytest.mark.parametrize("name, told", (("nosuch/image", "No such file"), ("top/f", "image too short"), ("top", "Is a directory")))
 def test_no_image(with_a_file, name, told):
     status, out, error = sync(name, "top")
     assert status == 1 and out == [] and told in error and error.startswith("sync: ") and error.count("\n") == 1, (
@@ -311,26 +311,6 @@ def test_another_program(with_a_file, name):
     written("silent", "#!/bin/sh\necho hello\n", 0o755)
     status, out, error = sync("image", "top", program=os.path.abspath(name))
     assert status == 1 and error.startswith("sync: ") and error.count("\n") == 1, ("another program", (status, out, error))
-
-
-def test_terminal(image, program):
-    """On a terminal there is progress, in one line."""
-    maildir("mail")
-    for number in range(200):
-        written(f"mail/cur/{number}:2,", mail(f"Subject number{number}", number=number))
-    ours, theirs = pty.openpty()
-    with subprocess.Popen([sys.executable, SYNC, "--as", "m", "image", "mail"], stdin=subprocess.DEVNULL, stdout=subprocess.PIPE, stderr=theirs,
-                          env={**os.environ, "LISFS_PROGRAM": program}) as child:
-        os.close(theirs)
-        said = b""
-        # A terminal whose other end is closed returns an error.
-        with contextlib.suppress(OSError):
-            while data := os.read(ours, 65_536):
-                said += data
-        out = child.stdout.read()
-    os.close(ours)
-    assert b"\r\x1b[Ksync: " in said and b"\n" not in said and said.endswith(b"\r\x1b[K"), ("progress is one line", said)
-    assert out == b"sync: sync:m: 200 new, 0 as they were\n", "counts"
 
 
 def test_memory(program):

@@ -171,6 +171,7 @@ def test_no_space_for_a_copy(monkeypatch):
 def test_a_dry_run_without_a_copy(program):
     written("top/f", "x\n")
     os.mkfifo("pipe")
-    for name, told in (("nosuch", "No such file"), ("top", "Is a directory"), ("pipe", "not a file or a block device"), ("top/f", "top/f: 2 bytes of 4096")):
+    os.symlink("nosuch", "link")
+    for name, told in (("link", "No such file"), ("top", "Is a directory"), ("pipe", "not a file or a block device"), ("top/f", "top/f: 2 bytes of 4096")):
         status, out, error = sync("--dry-run", name, "top")
         assert (status, out, error.count("\n")) == (1, [], 1) and told in error and "/lisfs-" not in error, (name, error)

@@ -12,7 +12,6 @@ from support.images import bytes_of, dump, session, written
 from support.syncing import held, mail, maildir, make, sync
 
 pytestmark = pytest.mark.usefixtures("program")
-LARGER = "a larger image has more room (docs/guide/backup.md)"
 DAY = 86_400
 
 
@@ -126,7 +125,8 @@ def test_no_room_for_files():
     maildir("mail")
     for number in range(100):
         written(f"mail/cur/{number * 37 % 100}:2,", sent(number))
-    told = ["not taken: 36 no room for more files", f"limit reached: 64 files: --newest 64 keeps the newest; {LARGER}"]
+    told = ["not taken: 36 no room for more files",
+            "limit reached: 64 files, and 100 are needed: --newest 64 keeps the newest; tools/enlarge image 128 8192 512 makes room"]
     assert sync("--as", "m", "image", "mail") == (1, ["sync:m: 64 new, 0 as they were", *told], ""), "what is told"
     wanted = {f"subject-number{number}" for number in range(36, 100)}
     assert {name.rpartition("-")[0] for name in held()} == wanted, "the newest"
@@ -145,9 +145,9 @@ def test_no_room_for_words():
     for number in range(100):
         written(f"mail/cur/{number}:2,", sent(number, f"Subject one{number} two{number}", sender=f"Person P{number} <p{number}@example.org>"))
     status, out, error = sync("--as", "m", "image", "mail")
-    assert (status, out[0], error) == (1, "sync:m: 100 new, 0 as they were", ""), "all come in"
-    limit = re.fullmatch(r"limit reached: 512 known words, 25 of them kept free: --lean takes fewer words for each new mail and source; "
-                         r"--newest ([0-9]+) keeps the newest; --reserve 0 keeps none free; a larger image .*", out[-1])
+    assert (status, out[1], error) == (1, "sync:m: 100 new, 0 as they were", ""), "all come in"
+    limit = re.fullmatch(r"limit reached: 512 known words, 25 of them kept free, and [0-9,]+ are needed: --lean takes fewer words for each new mail and "
+                         r"source; --newest ([0-9]+) keeps the newest; --reserve 0 keeps none free; tools/enlarge image 256 [0-9]+ 512 makes room", out[-1])
     assert limit, out
     assert known() == 512 - 25, "each word that there is room for"
     whole = int(limit[1])
@@ -157,7 +157,7 @@ def test_no_room_for_words():
     # The advice helps: without --lean, and with it.
     assert sync("--as", "m", "--newest", str(whole), "image", "mail")[0] == 0, "a few of them"
     # Automatic words that are already known are not counted again.
-    assert sync("--as", "m", "--newest", str(whole + 5), "image", "mail")[1][0] == f"sync:m: 5 new, {whole} as they were", "some more"
+    assert sync("--as", "m", "--newest", str(whole + 5), "image", "mail")[1][1] == f"sync:m: 5 new, {whole} as they were", "some more"
     assert known() == 512 - 25, "each word that there is room for"
     make("lean", ("256", "512", "512"))
     assert sync("--as", "m", "--lean", "lean", "mail") == (0, ["sync:m: 100 new, 0 as they were"], ""), "all of them"
@@ -169,12 +169,100 @@ def test_no_room_for_words():
             program.mkdir(b"mine%d" % number)
 
 
+def lean_told(out, image="image"):
+    """What is said of --lean before the first change: how many words are needed, free, and needed with --lean, and the command; or None."""
+    found = re.fullmatch(rf"{image}: not enough known words \(([0-9,]+) new files? need ([0-9,]+), and ([0-9,]+) are free\): "
+                         r"--lean needs ([0-9,]+)(, also too many)?: (.*)", out[0])
+    return found and (*(int(found[number].replace(",", "")) for number in (1, 2, 3, 4)), bool(found[5]), found[6])
+
+
+def test_lean_told_before():
+    """If there are too few words, a line says before the run how many, how many with --lean, and the command. The counts are those of real runs."""
+    maildir("mail")
+    for number in range(100):
+        written(f"mail/cur/{number}:2,", sent(number, f"Subject one{number} two{number}", sender=f"Person P{number} <p{number}@example.org>"))
+    needed = {}
+    for words in ((), ("--lean",)):
+        make("image", ("256", "8192", "512"))
+        assert sync("--as", "m", *words, "image", "mail") == (0, ["sync:m: 100 new, 0 as they were"], ""), "nothing is said if there are enough"
+        # The word that names what was brought in is not one of the files.
+        needed[words] = known() - 1
+    make("image", ("256", "512", "512"))
+    with session() as program:
+        program.mkdir(b"mine")
+    before = dump()
+    told = lean_told(sync("--as", "m", "--dry-run", "image", "mail")[1])
+    assert told[:4] == (100, needed[()], 512 - 25 - 2, needed[("--lean",)]) and not told[4], (told, needed)
+    assert told[5].endswith("/tools/sync --lean --as m --dry-run image mail") and dump() == before, "before anything is changed"
+    # A run with exactly as many words as are said has room, and with one fewer it says so.
+    for spare, count in ((0, 0), (1, 1)):
+        make("image", ("256", "1024", "512"))
+        out = sync("--as", "m", "--reserve", str(1_024 - needed[()] - 1 + spare), "image", "mail")[1]
+        assert len([line for line in out if "not enough known words" in line]) == count, (spare, out)
+        assert any("limit reached" in line for line in out) == bool(count), (spare, out)
+    # And with the command there is room.
+    make("image", ("256", "512", "512"))
+    assert sync("--lean", "--as", "m", "image", "mail") == (0, ["sync:m: 100 new, 0 as they were"], ""), "with the command"
+
+
+def test_lean_told_only_where_it_helps():
+    make("image", ("256", "64", "512"))
+    for number in range(40):
+        dated(f"top/{number}/f.txt", number + 1)
+    assert lean_told(sync("--as", "t", "--reserve", "1/2", "image", "top")[1]) is None, "no mail or source"
+    make("image", ("256", "64", "512"))
+    maildir("mail")
+    for number in range(40):
+        written(f"mail/cur/{number}:2,", sent(number, f"Subject one{number} two{number}"))
+    told = lean_told(sync("--as", "m", "--dry-run", "image", "mail")[1])
+    assert told[3] > told[2] and told[4], ("too many with --lean too", told)
+    assert lean_told(sync("--as", "m", "--lean", "image", "mail")[1]) is None, "with --lean"
+
+
+def test_lean_and_words_that_are_freed():
+    """Words of older mails that go have room for those of newer ones, so nothing is said."""
+    make("image", ("64", "512", "512"))
+    maildir("mail")
+    for number in range(40):
+        written(f"mail/cur/{number}:2,", sent(number, f"Subject one{number} two{number} three{number}"))
+    room = ("--reserve", "0", "--newest", "40", "image", "mail")
+    assert sync("--as", "m", *room)[0] == 0
+    used = known()
+    for number in range(40, 80):
+        written(f"mail/cur/{number}:2,", sent(number, f"Subject one{number} two{number} three{number}"))
+    assert used > 512 / 2
+    status, out, _ = sync("--as", "m", *room)
+    assert (status, out[0]) == (0, "sync:m: 40 new, 40 removed as older, 0 as they were"), out
+
+
+def test_lean_told_in_the_middle():
+    """Changed bytes are taken in any case, and may leave too few words for new mails: then a line says so once, with the command."""
+    maildir("mail")
+    make("image", ("256", "256", "512"))
+    written("mail/cur/a:2,", sent(0))
+    assert sync("--as", "m", "--reserve", "0", "image", "mail")[0] == 0
+    written("mail/cur/a:2,", sent(0, to=", ".join(f"to{number}@example.org" for number in range(40))))
+    # Each new mail needs six words, and the changed one some forty.
+    free = 256 - known()
+    count = (free - 40) // 6
+    for number in range(1, count):
+        written(f"mail/cur/{number}:2,", sent(number, f"Subject one{number} two{number}", sender=f"Person P{number} <p{number}@example.org>"))
+    status, out, _ = sync("--as", "m", "--reserve", "0", "image", "mail")
+    told = [line for line in out if "run short" in line]
+    assert status == 1 and len(told) == 1 and lean_told(out) is None, (free, count, out)
+    found = re.fullmatch(r"image: known words run short after ([0-9]+) of ([0-9]+) changes \(256 in all, 0 of them kept free\): --lean needs fewer: "
+                         r".*/tools/sync --lean --as m --reserve 0 image mail", told[0])
+    assert found and 0 < int(found[1]) < int(found[2]) == count, told
+    # The newest have their words, and it is said before the counts.
+    assert out.index(told[0]) == 0
+
+
 def test_reserve():
     make("image", ("64", "64", "64"))
     for number in range(40):
         dated(f"top/{number}/f", number + 1)
     status, out, _ = sync("--as", "t", "--reserve", "1/2", "image", "top")
-    assert status == 1 and known() == 32 and "limit reached: 64 known words, 32 of them kept free: " in out[-1], (out, known())
+    assert status == 1 and known() == 32 and "limit reached: 64 known words, 32 of them kept free, and 78 are needed: " in out[-1], (out, known())
     assert "--lean" not in out[-1], "which no file here needs"
     assert held()["39+f"] == {"sync:t", "in:39"} and held()["0+f"] == {"sync:t"}, "the newest have their words"
     assert sync("--as", "t", "--reserve", "0", "image", "top")[:2] == (0, ["sync:t: 14 with other words, 26 as they were"]), "and then all"
@@ -226,7 +314,7 @@ def test_sources_without_room():
     for number in range(4):
         dated(f"top/f{number}.c", number + 1, "".join(f"int f{number}{letter}(void) {{ }}\n" for letter in "abcdefghijklmnopqr"))
     status, out, error = sync("--as", "t", "image", "top")
-    assert (status, out[:2], error) == (
+    assert (status, out[1:3], error) == (
         1, ["sync:t: 4 new, 0 as they were", "2 files named as by --lean: no room for the words that the program derives"], ""), "what is told"
     assert "--newest 2 keeps the newest" in out[-1], out
     assert sorted(held()) == ["f0.c_", "f1.c_", "f2.c", "f3.c"], "the newest have all"
@@ -239,7 +327,7 @@ def test_room_and_bytes():
         dated(f"top/f{number}", number + 1, bytes(size))
     assert sync("--as", "t", "image", "top")[:2] == (
         1, ["sync:t: 3 new, 0 as they were", "not taken: 2 no room for its bytes",
-            f"limit reached: 4 blocks: --newest 1 keeps the newest; {LARGER}"]), "what is told"
+            "limit reached: 4 blocks, and 8 are needed: --newest 1 keeps the newest; tools/enlarge image 64 64 8 makes room"]), "what is told"
     assert sorted(held()) == ["f1", "f2", "f4"], "which come in"
 
 
@@ -252,6 +340,6 @@ def test_dry_run_tells_what_has_no_room():
     status, out, _ = sync("--as", "t", "--dry-run", "image", "top")
     assert (status, out[-3:]) == (1, [
         "sync:t: would be 64 new, 0 as they were", "not taken: 6 no room for more files",
-        f"limit reached: 64 files: --newest 64 keeps the newest; {LARGER}"]), "the same as a run"
+        "limit reached: 64 files, and 70 are needed: --newest 64 keeps the newest; tools/enlarge image 128 64 128 makes room"]), "the same as a run"
     with open("image", "rb") as file:
         assert file.read() == before, "and no byte changes"

@@ -1,6 +1,6 @@
 """Makes a session from a folder or a maildir: the words that are needed, and an `add` line with its bytes for each file.
 
-usage: tools/import [--word WORD].. [--by-folder] [--without PATTERN].. [--since DATE] [--newest N] [--v2] [--verbose] FOLDER > session
+usage: tools/import [--word WORD].. [--by-folder] [--without PATTERN].. [--since DATE] [--newest N] [--threads] [--v2] [--verbose] FOLDER > session
        ./lisfs run files.lis < session
        tools/talk files.lis < session      (if files.lis is served by `tools/serve files.lis`)
 
@@ -13,6 +13,9 @@ A folder that has `cur` and `new` in it is a maildir, and so is a folder below t
 folders named `.NAME.NAME`. Each mail is named after its file without the flags, and the name ends with `.eml`. Elsewhere a file named `.eml`
 is a mail. --without skips files and folders with such a name, as `.git` or `*.o`, and may be repeated. --v2 is for an image of version 2: it
 takes files of up to 1,048,576 bytes; without it 65,536 are the most.
+
+--threads gives the mails of each thread one word more, `thread:` and the subject of the thread's first mail. A mail whose parent, by References and
+In-Reply-To, is not in the folder begins a thread, and a mail alone gets no such word.
 
 --since DATE takes the files from a day, a month or a year on (2024-06-03, 2024-06, 2024), and --newest N the N newest files. The date of a
 mail is that of its header, and of another file the time of its last change. The newest files come first in the session, so an image that has
@@ -36,15 +39,16 @@ from collections.abc import Callable, Iterator, Sequence
 from typing import BinaryIO, NamedTuple
 
 from lisfs.client import PROGRAM, Ended, NotAReply, Program, counts_in
-from lisfs.constants import BLOCK_LEN, MAX_ASSIGNED, MAX_BLOCKS, MAX_FILES, MAX_PROPS, MAX_WORD, SLOT_BLOCKS
-from lisfs.endings import folder_fault, quiet
+from lisfs.constants import MAX_ASSIGNED, MAX_WORD
+from lisfs.endings import Stopped, folder_fault, quiet, stop_at_signals
 from lisfs.folder import walk
 from lisfs.folder.carrying import ROOT, Job, Sender, Step, Words, fitting, session_word
 from lisfs.folder.entries import Entries, Entry, newest_first
 from lisfs.folder.forms import folder_value
 from lisfs.folder.options import at_least_one, day
 from lisfs.folder.report import Telling, counted, left_out
-from lisfs.image import FILE_BYTES
+from lisfs.limits import LARGEST, VERSIONS, Limits, Need, beyond, blocks_of, smallest
+from lisfs.progress import Progress
 from lisfs.refusals import cause_of
 from lisfs.showing import harmless, write_line
 from lisfs.words import head_of, is_assignable, mapped
@@ -61,6 +65,7 @@ class Options(argparse.Namespace):
     without: list[str]
     since: float | None
     newest: int | None
+    threads: bool
     v2: bool
     verbose: bool
     folder: str
@@ -83,11 +88,11 @@ class Command(NamedTuple):
 
 class Import:
     def __init__(self, words: Words, by_folder: bool, version: int, telling: Telling) -> None:
-        self.words, self.by_folder, self.version, self.largest, self.telling = words, by_folder, version, FILE_BYTES[version], telling
+        self.words, self.by_folder, self.version, self.largest, self.telling = words, by_folder, version, VERSIONS[version - 1].file_bytes, telling
         self.files: list[Taken] = []
         self.names: set[str] = set()
         self.declared: dict[bytes, None] = {}
-        self.taken = self.blocks = self.renamed = self.beyond = self.beyond_files = self.looked = self.older = 0
+        self.taken = self.blocks = self.renamed = self.beyond = self.beyond_files = self.older = 0
         # The folders whose word differs from their name, or that have none, and the words that represent two folders.
         self.odd_folders: set[str] = set()
         self.double_words: set[bytes] = set()
@@ -140,13 +145,10 @@ class Import:
             words.append(word)
         return words
 
-    def look(self) -> None:
-        self.looked += 1
-        self.telling.progress(lambda: f"{counted(self.looked, 'file')} looked at")
-
     def read(self, words: Options) -> None:
         """Finds the files to take, the newest first, and the words that they need."""
-        self.entries = entries = Entries(words.folder, self.largest, self.words_of, self.telling.leave, self.look, words.without)
+        self.entries = entries = Entries(words.folder, self.largest, self.words_of, self.telling.leave, self.telling.line, words.without,
+                                         has_threads=words.threads)
         entries.read()
         entries.choose(words.since, words.newest)
         # Names depend on the order in which files are found.
@@ -190,20 +192,22 @@ class Import:
             yield Command((b"add", name, b"%d" % len(content), *line[1:]), content)
             if rest:
                 yield Command((b"mv", name, b"/".join(rest)))
-            self.telling.progress(lambda: f"{self.taken} of {counted(len(self.files), 'file')}")
 
     def carry(self, out: BinaryIO, largest: "Largest") -> None:
         """Writes the session, and sends it to the largest image too."""
-        for words, payload in self.commands():
-            out.write(b" ".join(words) + b"\n")
-            if payload is not None:
-                out.write(payload)
-                out.write(b"\n")
-            largest.take(words, payload)
+        size = sum(taken.found.size or 0 for taken in self.files)
+        with Progress(self.telling.line, "writing", len(self.files), size) as work:
+            for words, payload in self.commands():
+                out.write(b" ".join(words) + b"\n")
+                if payload is not None:
+                    out.write(payload)
+                    out.write(b"\n")
+                    work.add(1, len(payload))
+                largest.take(words, payload)
         out.flush()
 
     def report(self, largest: "Largest") -> None:
-        files = max(64, 1 << (max(1, self.taken) - 1).bit_length())
+        need = Need(self.taken, largest.known, self.blocks)
         self.tell(f"{self.taken} files taken, {self.telling.not_taken.total()} not taken, {self.renamed} named otherwise")
         if self.telling.not_taken:
             self.tell(f"not taken: {self.telling.causes()}")
@@ -216,8 +220,8 @@ class Import:
         left_out(self.tell, self.beyond, self.beyond_files, f"a file is given {MAX_ASSIGNED} at most")
         if self.entries:
             self.entries.tell_tags(self.tell)
-        if files > MAX_FILES or self.blocks > MAX_BLOCKS:
-            self.tell(f"no image holds all of it: it takes {self.taken} of {MAX_FILES} files and {self.blocks} of {MAX_BLOCKS} blocks; "
+        if beyond(need):
+            self.tell(f"no image holds all of it: it takes {self.taken} of {LARGEST.files} files and {self.blocks} of {LARGEST.blocks} blocks; "
                       "--newest N takes the newest files")
         elif largest.why:
             self.tell(f"the words that are derived from files are not counted, since {largest.why}")
@@ -226,9 +230,8 @@ class Import:
             more = "; ..." if len(largest.refused) > SOME else ""
             self.tell(f"no image holds all of it: the largest one refuses {counted(largest.refused.total(), 'line')}: {'; '.join(some)}{more}; "
                       "--newest N takes the newest files")
-        else:
-            limits = [str(files), str(max(64, -(-largest.known // 64) * 64)), str(max(1, self.blocks))] + largest.version
-            self.tell(f"an empty image has room for it from these limits on: {' '.join(limits)}")
+        elif limits := smallest(need):
+            self.tell(f"an empty image has room for it from these limits on: {' '.join(limits._replace(version=self.version).make())}")
 
 
 class Session(NamedTuple):
@@ -243,7 +246,7 @@ class Largest:
     and `refused` how many lines it refused. `why` says why these can't be counted."""
 
     def __init__(self, folder: str, version: int) -> None:
-        self.version, self.known = ["v2"] if version == 2 else [], 0
+        self.known, self._limits = 0, Limits(LARGEST.files, LARGEST.words, LARGEST.blocks, version)
         # How many lines it refused for each cause, and the words that it has declared.
         self.refused: collections.Counter[str] = collections.Counter()
         self._declared: set[bytes] = set()
@@ -273,7 +276,7 @@ class Largest:
             self.why = str(error)
 
     def _begin(self) -> None:
-        Program([PROGRAM, "make", self._image, *map(str, (MAX_FILES, MAX_PROPS, MAX_BLOCKS)), *self.version]).close()
+        Program([PROGRAM, "make", self._image, *self._limits.make()]).close()
         program = Program([PROGRAM, session_word(), self._image])
         self._session = Session(program, Sender(program))
 
@@ -290,11 +293,6 @@ class Largest:
         session.program.close()
 
 
-def blocks_of(size: int) -> int:
-    needed = -(-size // BLOCK_LEN)
-    return needed + 1 if needed > SLOT_BLOCKS else needed
-
-
 @quiet
 def main() -> int:
     parser = argparse.ArgumentParser(usage=__doc__.split("usage: ", 1)[1])
@@ -303,6 +301,7 @@ def main() -> int:
     parser.add_argument("--without", action="append", default=[])
     parser.add_argument("--since", type=day)
     parser.add_argument("--newest", type=at_least_one)
+    parser.add_argument("--threads", action="store_true")
     parser.add_argument("--v2", action="store_true")
     parser.add_argument("--verbose", action="store_true")
     parser.add_argument("folder")
@@ -317,11 +316,16 @@ def main() -> int:
         write_line(sys.stderr, f"import: {fault}")
         return 2
     taking = Import(given, words.by_folder, 2 if words.v2 else 1, Telling("import", sys.stderr, words.verbose))
-    taking.read(words)
-    import tempfile
-    with tempfile.TemporaryDirectory() as folder:
-        largest = Largest(folder, taking.version)
-        taking.carry(sys.stdout.buffer, largest)
-        largest.end()
+    stop_at_signals()
+    try:
+        taking.read(words)
+        import tempfile
+        with tempfile.TemporaryDirectory() as folder:
+            largest = Largest(folder, taking.version)
+            taking.carry(sys.stdout.buffer, largest)
+            largest.end()
+    except (KeyboardInterrupt, Stopped):
+        taking.tell("stopped: the session is cut off")
+        return 1
     taking.report(largest)
     return 1 if taking.telling.not_taken else 0

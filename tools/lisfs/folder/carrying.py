@@ -9,7 +9,7 @@ import fcntl
 import os
 import re
 import subprocess
-from collections.abc import Generator, Iterator, Sequence
+from collections.abc import Callable, Generator, Iterator, Sequence
 from typing import NamedTuple, Protocol, TypeAlias
 
 from lisfs import derived
@@ -18,7 +18,10 @@ from lisfs.constants import LARGE_DESCRIPTION, MAX_DERIVED, MAX_LARGE_FILE, NO_F
 from lisfs.folder import memory, names, walk
 from lisfs.folder.changes import MARKER, Change, Changes, Done
 from lisfs.folder.entries import Entry, newest_first
-from lisfs.folder.room import Room, Short
+from lisfs.folder.needs import Needs, can_be_lean, left_of, needs_of
+from lisfs.folder.room import Room
+from lisfs.limits import Limit, Need, blocks_of
+from lisfs.progress import Look, no_look
 from lisfs.refusals import REFUSALS, cause_of, named
 from lisfs.words import head_of, stem_of
 
@@ -84,10 +87,11 @@ def session_word() -> str:
 
 
 class Sender:
-    """Runs jobs. A `cd` is sent only before a step whose place is not where the program is."""
+    """Runs jobs. A `cd` is sent only before a step whose place is not where the program is. `look` is called with the bytes of each command that
+    was replied to."""
 
-    def __init__(self, program: Program) -> None:
-        self._program, self._place, self._bytes = program, ROOT, 0
+    def __init__(self, program: Program, look: Look = no_look) -> None:
+        self._program, self._place, self._bytes, self._look = program, ROOT, 0, look
         self._waiting: collections.deque[Pending] = collections.deque()
         # A system may allow less.
         with contextlib.suppress(OSError):
@@ -143,6 +147,8 @@ class Sender:
         except Refused as error:
             refusal = error
             refusal.command, refusal.given = words[0].decode(), tuple(words[1:])
+        if size:
+            self._look(0, size)
         if job is not None:
             self._go_on(job, refusal)
         elif refusal is not None:
@@ -157,10 +163,13 @@ class NoRoom(Exception):
 
 class Carrying:
     """Makes changes in an image. `told` is called for each change that was made, with what was done, a name and more; `failed` is called with a path
-    and why. First come `declare` and `remember`, then `run`, and at the end `remember` again."""
+    and why; and `runs_short` once, when known words run short, with how many changes had their words. First comes `needs`, if it is wanted, then
+    `declare` and `remember`, then `run`, and at the end `remember` again."""
 
-    def __init__(self, sender: Sender, plan: Changes, room: Room, told: Told, failed: walk.Leave) -> None:
-        self.sender, self.plan, self.room, self.told, self.failed = sender, plan, room, told, failed
+    def __init__(self, sender: Sender, plan: Changes, room: Room, told: Told, failed: walk.Leave, runs_short: Callable[[int], None]) -> None:
+        self.sender, self.plan, self.room, self.told, self.failed, self._runs_short = sender, plan, room, told, failed, runs_short
+        # How many changes were begun before the one that is under way, and whether words have run short.
+        self._begun, self._is_short = 0, False
         self.largest, self.place = room.limits.file_bytes, ROOT + plan.marker
         # Words that a file can be given without another word becoming known.
         self.known = known_words(plan)
@@ -214,7 +223,7 @@ class Carrying:
             if not change.is_new:
                 self.sender.start(self._prepare(change))
         self._measure()
-        for change in self.plan.changes:
+        for self._begun, change in enumerate(self.plan.changes):
             if change.is_new:
                 self._start_new(change)
             elif change.key in self.halves:
@@ -232,14 +241,37 @@ class Carrying:
             self.room.files -= 1
             self.sender.start(self._add(change))
 
+    def needs(self, look: Look) -> Needs | None:
+        """What the changes need of words, before any is made. None if there is room for whatever they may bring, or if lean names would not help."""
+        if not can_be_lean(self.plan) or not self._may_be_short():
+            return None
+        words, beside = self._words_of_files(), self._words_beside()
+        left = beside.union(left_of(words, self.plan))
+        freed = len(beside.union(*words.values())) - len(left)
+        # A memory needs a word too.
+        free = self.room.free + freed - (not self.memories)
+        return needs_of(self.plan, left, max(free, 0), self.room.files + len(self.plan.gone), look)
+
     def _measure(self) -> None:
         """Finds how much room there is now, and for which words, if that may be too little."""
-        counts, = map(counts_in, self.sender.ask((b"stat",)))
-        if self.room.measure(counts, sum(map(most_words, self.plan.changes))):
-            known = {text for lines in self.sender.ask(*((b"props", name) for name in sorted(self.names))) for _, text in lines}
-            known |= {word for axiom in self.plan.dump.axioms for word in (axiom.left, head_of(axiom.left) or axiom.left)}
-            self.room.learn(known | self.known | self.plan.dump.declared | self.memories)
+        if self._may_be_short():
+            self.room.learn(self._words_beside().union(*self._words_of_files().values()))
             self.room.force(self.plan.marker)
+
+    def _may_be_short(self) -> bool:
+        """Finds how much room there is now. Returns whether it may be too little for the words of all changes."""
+        counts, = map(counts_in, self.sender.ask((b"stat",)))
+        return self.room.measure(counts, sum(map(most_words, self.plan.changes)))
+
+    def _words_of_files(self) -> dict[bytes, set[bytes]]:
+        """All words of each file of the image."""
+        all_names = sorted(self.names)
+        return {name: {text for _, text in lines} for name, lines in zip(all_names, self.sender.ask(*((b"props", name) for name in all_names)))}
+
+    def _words_beside(self) -> set[bytes]:
+        """The words that are known whatever files have."""
+        axioms = {word for axiom in self.plan.dump.axioms for word in (axiom.left, head_of(axiom.left) or axiom.left)}
+        return axioms | self.known | self.plan.dump.declared | self.memories
 
     def _declare(self, head: bytes) -> Job:
         refusal = yield Step(ROOT, (b"mkdir", head + b":"))
@@ -292,6 +324,8 @@ class Carrying:
             for given in self._tries(gains, name == all_names[-1]):
                 if self.room.take([*own, self.plan.marker, *given]):
                     yield name, given
+                else:
+                    self._words_are_short()
 
     def _added(self, change: Change, name: bytes, given: list[bytes]) -> Job:
         """Completes a new file, which exists now: gives it the words that did not fit its line, or those for which there is room one by one."""
@@ -304,10 +338,17 @@ class Carrying:
     def _lacks(self, change: Change, number: int) -> None:
         """Notes that there is not enough room for a file, if the refusal means that."""
         self.lacks_files = self.lacks_files or number == NO_FILE_ROOM
-        self.lacks_words = self.lacks_words or number == NO_PROPERTY_ROOM
+        if number == NO_PROPERTY_ROOM:
+            self.lacks_words = True
+            self._words_are_short()
         self.lacks_blocks = self.lacks_blocks or number == NO_SPACE
         if number in (NO_FILE_ROOM, NO_PROPERTY_ROOM, NO_SPACE):
             self.short.add(change.key)
+
+    def _words_are_short(self) -> None:
+        if not self._is_short:
+            self._is_short = True
+            self._runs_short(self._begun)
 
     def _content(self, entry: Entry) -> bytes:
         content = walk.content(entry.found, self.largest)
@@ -419,9 +460,16 @@ class Carrying:
                 break
             newest += not entry.found.problem
         others = len(self.plan.dump.files) - self.plan.own + self.plan.staying
-        short = Short(self.lacks_files, self.lacks_words, self.lacks_blocks)
-        can_be_lean = not self.plan.is_lean and any(entry.is_mail or derived.has_many(os.fsencode(entry.found.key)) for _, entry in entries)
-        return self.room.advice(short, self.room.limits.files - others, newest, can_be_lean)
+        is_lean_fewer = not self.plan.is_lean and any(entry.is_mail or derived.has_many(os.fsencode(entry.found.key)) for _, entry in entries)
+        lacks: dict[Limit, bool] = {"files": self.lacks_files, "words": self.lacks_words, "blocks": self.lacks_blocks}
+        return self.room.advice([name for name, is_short in lacks.items() if is_short], self._needed(), self.room.limits.files - others, newest, is_lean_fewer)
+
+    def _needed(self) -> Need:
+        """How much the image would need for all files of the folder and all others in it, as far as that is known."""
+        plan, away = self.plan, set(self.plan.away)
+        sizes = [entry.found.size or 0 for _, entry in plan.keyed if not entry.found.problem and not entry.is_older and entry.found.path not in away]
+        sizes += [size for name, (size, _) in plan.dump.files.items() if name not in plan.kept and name not in plan.gone_keys]
+        return Need(len(sizes), self.room.words_needed(), sum(map(blocks_of, sizes)))
 
 
 def most_words(change: Change) -> int:

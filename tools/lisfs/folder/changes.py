@@ -1,8 +1,8 @@
 """What is new, changed or gone in a folder, and what was changed in the image, compared with what earlier runs brought in.
 
-A folder's own files in an image have its marker, a word `sync:NAME`. On these files, values of the heads in `HEADS` are the folder's too: somebody
-gave them all their other words, which stay. The records of `memory` say what was brought in: what changed only in the folder is brought in, what
-changed only in the image stays, and what changed on both sides is a conflict, which is left.
+A folder's own files in an image have its marker, a word `sync:NAME`. On these files, values of the heads in `HEADS` are the folder's too, and with
+words of threads those in `THREADS`: somebody gave them all their other words, which stay. The records of `memory` say what was brought in: what
+changed only in the folder is brought in, what changed only in the image stays, and what changed on both sides is a conflict, which is left.
 """
 import enum
 import hashlib
@@ -14,14 +14,16 @@ from typing import NamedTuple, TypeAlias
 from lisfs import derived
 from lisfs.constants import MAX_ASSIGNED, MAX_DERIVED, MAX_WORD
 from lisfs.dumps import Dump
-from lisfs.folder import mails, music, walk
+from lisfs.folder import mails, music, threads, walk
 from lisfs.folder.entries import Entry, newest_first
 from lisfs.folder.forms import folder_value
 from lisfs.folder.memory import REMOVAL, Record, Records, settled
+from lisfs.progress import Look, no_look
 from lisfs.words import head_of, stem_of
 
 MARKER, FOLDER = b"sync", b"in"
 HEADS = frozenset(head + b":" for head in (FOLDER, *mails.HEADS, *music.HEADS))
+THREADS = HEADS | {threads.HEAD + b":"}
 # How much more the common bytes of two files count than a common word of the folder, or suffix, as evidence that the files are one; and the part of
 # it for unknown bytes.
 SHARED, UNKNOWN_PART = 4, 0.3
@@ -68,12 +70,13 @@ class Side(enum.Enum):
 
 
 class Wishes(NamedTuple):
-    """Which side settles conflicts that must not be left: all of them, and those of named files. And whether files that were removed from the image
-    are restored."""
+    """Which side settles conflicts that must not be left: all of them, and those of named files. Whether files that were removed from the image are
+    restored, and whether mails get words of their threads."""
 
     side: Side | None = None
     named: Mapping[str, Side] = MappingProxyType({})
     restore: bool = False
+    threads: bool = False
 
 
 class Conflict(NamedTuple):
@@ -130,12 +133,15 @@ class Changes:
     `away` the paths of files that stay out of the image, and `renamed` are those that have another name in the image. `unseen` counts files that are
     not removed, since not all of the folder was seen. `older` counts files that are older than wanted and don't come in, `out` has the names of those
     in `gone` that are removed only for this reason, and `staying` counts those that stay nevertheless, since somebody changed them in the image.
-    `records` describe the state before any change, and after it what was done. `bytes_of` returns the bytes of a file of the image, and `top` is the
-    path of the folder."""
+    `records` describe the state before any change, and after it what was done. `bytes_of` returns the bytes of a file of the image, `top` is the
+    path of the folder, and `look` is called for each file that was compared."""
 
     def __init__(self, entries: Iterable[Entry], dump: Dump, marker: bytes, is_lean: bool = False, records: Records | None = None,
-                 wishes: Wishes = Wishes(), is_blind: bool = False, bytes_of: Callable[[bytes], bytes] | None = None, top: str = "") -> None:
+                 wishes: Wishes = Wishes(), is_blind: bool = False, bytes_of: Callable[[bytes], bytes] | None = None, top: str = "",
+                 look: Look = no_look) -> None:
         self.marker, self.dump, self.is_lean, self.wishes, self.is_blind, self.top = marker, dump, is_lean, wishes, is_blind, top
+        # The heads of words that are the folder's.
+        self.owned = THREADS if wishes.threads else HEADS
         self.changes: list[Change] = []
         self.gone: list[bytes] = []
         self.refused: list[Entry] = []
@@ -165,7 +171,7 @@ class Changes:
         self.records = {key: record for key, record in self.records.items() if (record.folder, record.image) != (None, None)}
         # A name of a file that the folder has or had belongs to its record alone.
         self.claimed = {record.name for record in self.records.values() if record.folder is not None}
-        for key, entry in [(key, entry) for key, entry in keyed if not self._held(key, entry)]:
+        for key, entry in [(key, entry) for key, entry in keyed if not self._compared(key, entry, look)]:
             self._fresh(key, entry)
         self._left({key for key, _ in keyed})
         self.gone.sort()
@@ -220,7 +226,7 @@ class Changes:
     def _likeness(self, key: str, entry: Entry | None, name: str) -> float:
         """How likely a file of the image, with other bytes and another name, is the file of a record, apart from its bytes: by the words that the
         folder gave it, by its suffix, and by what the two names have in common."""
-        was, words = self.records[key].name, {word for word in self.dump.files[name.encode()].words if head_of(word) in HEADS}
+        was, words = self.records[key].name, {word for word in self.dump.files[name.encode()].words if head_of(word) in self.owned}
         alike = len(words & set(entry.words)) - len(words ^ set(entry.words)) / 2 if entry else 0.0
         ends = os.path.splitext(was)[1] == os.path.splitext(name)[1]
         common = len(os.path.commonprefix([was, name])) + len(os.path.commonprefix([was[::-1], name[::-1]]))
@@ -284,6 +290,13 @@ class Changes:
 
     # Files of the folder.
 
+    def _compared(self, key: str, entry: Entry, look: Look) -> bool:
+        """The same as `_held`, counted."""
+        size = unread(entry)
+        is_held = self._held(key, entry)
+        look(1, size - unread(entry))
+        return is_held
+
     def _held(self, key: str, entry: Entry) -> bool:
         """Judges a file that was brought in, or that the image has without a record. Returns whether it is such a file."""
         record, name = self.records.get(key), self._name_in_image(key, entry)
@@ -307,7 +320,7 @@ class Changes:
         record, image, words = self.records.get(key), self._digest(name), self.dump.files[name.encode()].words
         is_named = record.name == record.made if record else name.encode() in entry.names(self.marker, False)
         is_read = image == folder or record is not None and image == record.image
-        if not (is_named and is_read and all(word == self.marker or head_of(word) in HEADS for word in words)):
+        if not (is_named and is_read and all(word == self.marker or head_of(word) in self.owned for word in words)):
             self.staying += 1
         elif self.is_blind:
             # Newer files may not have been seen, or some may be gone.
@@ -386,7 +399,7 @@ class Changes:
     def _change(self, key: str, entry: Entry, name: str, has_other_bytes: bool = False, is_same: bool = False) -> None:
         """Notes the changes of a file that is in the image: bytes, words, and a name if it moved in the folder and nobody renamed it."""
         words = self.dump.files[name.encode()][1]
-        theirs = {word for word in words if word != self.marker and (head_of(word) not in HEADS or head_of(word) in entry.unread)}
+        theirs = {word for word in words if word != self.marker and (head_of(word) not in self.owned or head_of(word) in entry.unread)}
         wanted = self._fitting(entry, MAX_ASSIGNED - 1 - len(theirs))
         loses = tuple(sorted(words - theirs - set(wanted) - {self.marker}))
         gains = tuple(word for word in wanted if word not in words)
@@ -479,6 +492,10 @@ class Changes:
     def is_nothing(self) -> bool:
         return not self.changes and not self.gone
 
+    def size(self) -> int:
+        """How many bytes of the folder come into the image."""
+        return sum(change.entry.found.size or 0 for change in self.changes if change.has_other_bytes)
+
     def coming(self) -> Records:
         """The records before the changes, with the digest that is coming to each file."""
         found = self.seen()
@@ -556,6 +573,11 @@ def content_of(entry: Entry) -> bytes:
         return walk.content(entry.found, entry.found.size or 0)
     except OSError:
         return b""
+
+
+def unread(entry: Entry) -> int:
+    """How many bytes of a file were not read yet."""
+    return 0 if entry.digest is not None else entry.found.size or 0
 
 
 def digest_of(entry: Entry) -> bytes:

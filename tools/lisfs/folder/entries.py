@@ -7,8 +7,10 @@ from collections.abc import Callable, Sequence
 from typing import NamedTuple
 
 from lisfs import derived
-from lisfs.folder import cache, mails, music, names, walk
+from lisfs.folder import cache, mails, music, names, threads, walk
 from lisfs.folder.report import counted
+from lisfs.progress import Line, Progress
+from lisfs.words import head_of
 
 # The kinds of records.
 MAIL, MUSIC = "mail", "music"
@@ -16,11 +18,12 @@ DAY = 86_400
 
 
 class MailRecord(NamedTuple):
-    """What is read from a mail: the digest of its bytes, or None if they are too many, its Message-ID or None, its subject, its words, how many words
-    the program would derive from it, and when it was sent or None."""
+    """What is read from a mail: the digest of its bytes, or None if they are too many, its Message-ID or None, those of the mails that it answers,
+    its subject, its words, how many words the program would derive from it, and when it was sent or None."""
 
     digest: str | None
     message_id: str | None
+    ancestors: list[str]
     subject: str
     words: list[str]
     derived: int
@@ -93,14 +96,15 @@ def newest_first(entry: Entry) -> tuple[float, str]:
 
 
 class Entries:
-    """Looks at the files of a folder. `largest` is the most bytes of a file; `folder_words` returns the words for the names of folders, `leave` is
-    called for what can't be taken, and `look` for each file. Files that `without` and `passed` describe are skipped. `tagless` counts the pieces of
+    """Looks at the files of a folder. `largest` is the most bytes of a file; `folder_words` returns the words for the names of folders, and `leave`
+    is called for what can't be taken. How far it is, `line` shows. Files that `without` and `passed` describe are skipped. `tagless` counts the pieces of
     music whose tags could not be read, and `is_deaf` says that the reader of tags is missing. What mails and music gave is first looked up in
-    `remembered`."""
+    `remembered`. If `has_threads`, the mails of each thread get a word."""
 
-    def __init__(self, top: str, largest: int, folder_words: Callable[[walk.Parts], list[bytes]], leave: walk.Leave, look: Callable[[], None],
-                 without: Sequence[str] = (), passed: Sequence[os.stat_result] = (), remembered: cache.Cache | None = None) -> None:
-        self.walk, self.largest, self.folder_words, self.look = walk.Walk(top, leave, without, passed), largest, folder_words, look
+    def __init__(self, top: str, largest: int, folder_words: Callable[[walk.Parts], list[bytes]], leave: walk.Leave, line: Line,
+                 without: Sequence[str] = (), passed: Sequence[os.stat_result] = (), remembered: cache.Cache | None = None,
+                 has_threads: bool = False) -> None:
+        self.walk, self.largest, self.folder_words, self._line = walk.Walk(top, leave, without, passed), largest, folder_words, line
         self.all: list[Entry] = []
         self.tagless, self.is_deaf = 0, False
         self._reader: music.Mutagen | None = None
@@ -108,12 +112,27 @@ class Entries:
         # A Date later than tomorrow is ignored, since such a mail would always be the newest.
         self.latest = time.time() + DAY
         self._remembered: cache.Cache = remembered or cache.Nothing()
+        # The mails with what says of which thread they are, if that is wanted.
+        self._letters: list[tuple[Entry, threads.Letter]] | None = [] if has_threads else None
 
     def read(self) -> None:
-        for found in self.walk.files():
-            self.all.append(self.entry(found))
-            self.look()
+        files = self._walked()
+        with Progress(self._line, "reading", len(files), sum(found.size or 0 for found in files)) as work:
+            for found in files:
+                size = found.size or 0
+                self.all.append(self.entry(found))
+                work.add(1, size)
         self._tell_apart()
+        self._give_threads()
+
+    def _walked(self) -> list[walk.Found]:
+        """The files, before any is read, so that it is known how many there are."""
+        files: list[walk.Found] = []
+        with Progress(self._line, "looking") as work:
+            for found in self.walk.files():
+                files.append(found)
+                work.add(1, found.size or 0)
+        return files
 
     def entry(self, found: walk.Found) -> Entry:
         entry = Entry(found, date=found.kind.st_mtime if found.kind else 0.0)
@@ -146,6 +165,9 @@ class Entries:
             entry.ident = b"mail", record.message_id.encode(errors="surrogateescape")
         if record.digest and not found.problem:
             entry.digest = bytes.fromhex(record.digest)
+        if self._letters is not None:
+            letter = threads.Letter(record.message_id, record.ancestors, record.subject, entry.date, found.key, not found.problem)
+            self._letters.append((entry, letter))
         return [word.encode() for word in record.words]
 
     def _read_mail(self, found: walk.Found) -> MailRecord | None:
@@ -160,7 +182,7 @@ class Entries:
         mail, digest, count = mails.Mail(content), None, 0
         if not found.problem:
             found.size, digest, count = len(content), hashlib.sha256(content).hexdigest(), len(derived.derived_words(b"x.eml", content))
-        record = MailRecord(digest, mail.message_id, mail.subject, [word.decode() for word in mail.words()], count, mail.sent())
+        record = MailRecord(digest, mail.message_id, mail.ancestors, mail.subject, [word.decode() for word in mail.words()], count, mail.sent())
         self._remembered.keep(found, times, MAIL, record)
         return record
 
@@ -203,6 +225,14 @@ class Entries:
             pieces = counted(self.tagless, "piece")
             tell(f"{pieces} of music without the words of tags: python3-mutagen is not there" if self.is_deaf else
                  f"{pieces} of music whose tags can't be read")
+
+    def _give_threads(self) -> None:
+        """Gives the mails of each thread its word, before the words of people and subjects, of which a mail may have more than a file is given."""
+        letters = self._letters or []
+        for (entry, _), word in zip(letters, threads.words_of([letter for _, letter in letters])):
+            if word is not None:
+                at = next((at for at, other in enumerate(entry.words) if head_of(other) in (b"who:", b"about:")), len(entry.words))
+                entry.words = *entry.words[:at], self._words.setdefault(word, word), *entry.words[at:]
 
     def _tell_apart(self) -> None:
         """Sets what each name is made from. Of several mails with one Message-ID all but one are identified by their bytes too, and those with the

@@ -28,7 +28,9 @@ END = re.compile(rb"\r?\n\r?\n")
 LINE = re.compile(r"[^\r\n]*(?:\r\n?|\n|\Z)")
 # How a line of a header begins: with the name of a field, or as a continuation of the field before.
 BEGIN = re.compile(r"([!-9;-~]*):|[\t ]|From ")
-FIELDS = frozenset(("date", "list-id", "from", "to", "cc", "subject", "message-id"))
+FIELDS = frozenset(("date", "list-id", "from", "to", "cc", "subject", "message-id", "in-reply-to", "references"))
+# How many earlier mails of its thread are kept of a mail, the nearest ones.
+ANCESTORS = 32
 # How many people are kept with their words, since the same people write again and again.
 KEPT = 2_048
 # The prefixes of replies and forwarded mails, and English and German words that are in every subject.
@@ -46,7 +48,8 @@ NOT_IN_A_WORD = re.compile(r"[^a-z0-9_.+@-]")
 
 
 class Mail:
-    """What the header of a mail says: `message_id` as text or None, `subject` as text, and `words`, the most important first."""
+    """What the header of a mail says: `message_id` as text or None, `ancestors`, which are those of the mails that it answers, the nearest first,
+    `subject` as text, and `words`, the most important first."""
 
     def __init__(self, content: bytes) -> None:
         header = content[:HEADER]
@@ -60,6 +63,8 @@ class Mail:
         self._fields = fields_of(text)
         found = MESSAGE_ID.search(raw := self._raw("Message-ID"))
         self.message_id = found[1] if found else raw.strip() or None
+        nearest = MESSAGE_ID.findall(self._raw("References"))[::-1] + MESSAGE_ID.findall(self._raw("In-Reply-To"))
+        self.ancestors: list[str] = list(dict.fromkeys(nearest))[:ANCESTORS]
         self.subject = subject_of(self._raw("Subject"))
 
     def _raw(self, name: str) -> str:

@@ -1,18 +1,14 @@
-"""What a tool prints: lines, counts by cause, and on a terminal one line of progress that is rewritten."""
+"""What a tool prints: lines, and counts by cause. The line of progress on a terminal is removed before each."""
 from __future__ import annotations
 
 import collections
 import errno
 import os
-import sys
-import time
 from collections.abc import Callable
 from typing import TextIO
 
+from lisfs.progress import Line
 from lisfs.showing import harmless, write_line
-
-# How often the line of progress is written, in seconds.
-PAUSE = 0.1
 
 
 class Telling:
@@ -21,10 +17,10 @@ class Telling:
     def __init__(self, tool: str, stream: TextIO, is_verbose: bool) -> None:
         self.tool, self.stream, self.is_verbose = tool, stream, is_verbose
         self.not_taken: collections.Counter[str] = collections.Counter()
-        self._is_terminal, self._at, self._is_written = sys.stderr.isatty(), 0.0, False
+        self.line = Line(tool)
 
     def tell(self, line: str) -> None:
-        self.clear()
+        self.line.clear()
         write_line(self.stream, f"{self.tool}: {line}")
 
     def tell_file(self, line: str) -> None:
@@ -38,16 +34,6 @@ class Telling:
 
     def causes(self) -> str:
         return ", ".join(f"{count} {cause}" for cause, count in sorted(self.not_taken.items()))
-
-    def progress(self, text: Callable[[], str]) -> None:
-        if self._is_terminal and time.monotonic() > self._at + PAUSE:
-            self._at, self._is_written = time.monotonic(), True
-            print(f"\r\033[K{self.tool}: {text()}", end="", file=sys.stderr, flush=True)
-
-    def clear(self) -> None:
-        if self._is_written:
-            print("\r\033[K", end="", file=sys.stderr, flush=True)
-            self._is_written = False
 
 
 def cause_of(why: str) -> str:

@@ -4,17 +4,30 @@ Files come in one after the other, the newest first, and each takes its room bef
 come by then. Some of the words that an image may know are kept free for the person. The program is asked which words it knows only if there may be
 too many.
 """
-from collections.abc import Iterable, Mapping
+import contextlib
+from collections.abc import Callable, Iterable, Mapping, Sequence
 from fractions import Fraction
-from typing import NamedTuple
 
 from lisfs import derived
-from lisfs.constants import MAX_BLOCKS, MAX_DERIVED, MAX_FILES, MAX_PROPS
-from lisfs.image import Limits
+from lisfs.constants import MAX_ASSIGNED, MAX_DERIVED
+from lisfs.folder import walk
+from lisfs.folder.entries import Entry
+from lisfs.folder.memory import WORD
+from lisfs.limits import SEVERAL, Limit, Limits, Need, blocks_of, command, enlarged
 from lisfs.words import head_of
 
 # The part of the words that is kept free if nobody says how many.
 RESERVE = Fraction(1, 20)
+
+
+def with_heads(words: Sequence[bytes]) -> list[bytes]:
+    """Words and the heads that become known with them."""
+    return [*words, *filter(None, map(head_of, words))]
+
+
+def own_words(name: bytes, content: bytes) -> list[bytes]:
+    """The words that the program derives from a file, with their heads."""
+    return with_heads(derived.derived_words(name, content)[:MAX_DERIVED])
 
 
 def kept_free(wish: Fraction, words: int) -> int:
@@ -22,12 +35,29 @@ def kept_free(wish: Fraction, words: int) -> int:
     return int(wish * words) if wish < 1 else int(wish)
 
 
-class Short(NamedTuple):
-    """Which kinds of room were short."""
+def beside_free(words: int, wish: Fraction) -> int:
+    """How many words an image must have room for, so that this many are left beside those that are kept free."""
+    return -int(-words // (1 - wish)) if wish < 1 else words + int(wish)
 
-    files: bool
-    words: bool
-    blocks: bool
+
+def needed(entries: Iterable[Entry], marker: bytes, is_lean: bool, looked: Callable[[], None]) -> Need:
+    """What the files of a folder need in an image of their own. Sources and mails are read for this, and `looked` is called after each file."""
+    taken = [entry for entry in entries if not entry.found.problem and not entry.is_older]
+    # One names the memory of what was brought in.
+    words, sizes = {WORD, *with_heads([marker])}, [entry.found.size or 0 for entry in taken]
+    for entry in taken:
+        words.update(with_heads([*entry.words[:MAX_ASSIGNED - 1], *words_alone(entry, entry.names(marker, is_lean)[0])]))
+        looked()
+    return Need(len(taken), len(words), sum(map(blocks_of, sizes)), max(sizes, default=0))
+
+
+def words_alone(entry: Entry, name: bytes) -> list[bytes]:
+    """The words that a file of the folder has on its own in an image; none of its bytes if it can't be read, which is reported later."""
+    size = entry.found.size or 0
+    if derived.has_many(name):
+        with contextlib.suppress(OSError):
+            return derived.derived_words(name, walk.content(entry.found, size))[:MAX_DERIVED]
+    return derived.words_by_name(name, size)
 
 
 class Room:
@@ -39,6 +69,8 @@ class Room:
         # How many more words may become known, and the known words if there may be too many.
         self._words = 0
         self._known: set[bytes] | None = None
+        # The words that there was no room for.
+        self._lacking: set[bytes] = set()
 
     def measure(self, counts: Mapping[str, int], most: int) -> bool:
         """Takes what `stat` shows. Returns whether the known words are needed, since this many more may be wanted."""
@@ -51,19 +83,24 @@ class Room:
         """Takes the words that the image knows."""
         self._known = set(known)
 
+    @property
+    def free(self) -> int:
+        """How many more words may become known."""
+        return max(self._words, 0)
+
     def words_of(self, name: bytes, content: bytes) -> list[bytes]:
-        """The words that the program derives from a file, with their heads, if they must be counted."""
+        """The words of `own_words`, if they must be counted."""
         if self._known is None:
             return []
-        words = derived.derived_words(name, content)[:MAX_DERIVED]
-        return words + [head for head in map(head_of, words) if head]
+        return own_words(name, content)
 
     def take(self, words: Iterable[bytes]) -> bool:
         """Whether there is room for the words of a file. If so, they count as known."""
         if self._known is None:
             return True
         new = set(words) - self._known
-        if len(new) > max(self._words, 0):
+        if len(new) > self.free:
+            self._lacking |= new
             return False
         self._words -= len(new)
         self._known |= new
@@ -75,23 +112,26 @@ class Room:
             self._words -= 1
             self._known.add(word)
 
-    def advice(self, short: Short, files: int, newest: int, can_be_lean: bool) -> list[str]:
-        """A line for each limit that was reached. The newest `newest` files are complete, and the image has room for `files` files of the folder."""
-        found: list[str] = []
-        if short.files:
-            found.append(self._line(f"{self.limits.files:,} files", [keeps(files)], self.limits.files < MAX_FILES))
-        if short.words:
-            lean = ["--lean takes fewer words for each new mail and source"] if can_be_lean else []
-            free = f", {self.reserve:,} of them kept free" if self.reserve else ""
-            less = ["--reserve 0 keeps none free"] if self.reserve else []
-            found.append(self._line(f"{self.limits.words:,} known words{free}", [*lean, keeps(newest), *less], self.limits.words < MAX_PROPS))
-        if short.blocks:
-            found.append(self._line(f"{self.limits.blocks:,} blocks", [keeps(newest)], self.limits.blocks < MAX_BLOCKS))
-        return found
+    def words_needed(self) -> int:
+        """How many words the image would have to have room for, at least, those that are kept free among them; 0 if that is not known."""
+        return 0 if self._known is None else len(self._known | self._lacking) + self.reserve
 
-    def _line(self, limit: str, ways: list[str], has_larger: bool) -> str:
-        larger = "a larger image has more room (docs/guide/backup.md)" if has_larger else "use several images (docs/guide/other-machines.md)"
-        return f"limit reached: {limit}: {'; '.join([*ways, larger])}"
+    def advice(self, reached: Sequence[Limit], need: Need, files: int, newest: int, can_be_lean: bool) -> list[str]:
+        """A line for each limit that was reached. `need` has how much is needed of each, or 0 if that is not known. The newest `newest` files are
+        complete, and the image has room for `files` files of the folder."""
+        counts: dict[Limit, int] = {"files": need.files, "words": need.words, "blocks": need.blocks}
+        ways: dict[Limit, list[str]] = {"files": [keeps(files)], "words": [keeps(newest)], "blocks": [keeps(newest)]}
+        limits = {"files": f"{self.limits.files:,} files", "words": f"{self.limits.words:,} known words", "blocks": f"{self.limits.blocks:,} blocks"}
+        if can_be_lean:
+            ways["words"].insert(0, "--lean takes fewer words for each new mail and source")
+        if self.reserve:
+            ways["words"].append("--reserve 0 keeps none free")
+            limits["words"] += f", {self.reserve:,} of them kept free"
+        # The image must have room for all, also where no limit was reached yet.
+        larger = enlarged(self.limits, {name: count for name, count in counts.items() if name in reached or count > getattr(self.limits, name)})
+        helps = f"{command(larger)} makes room" if larger else SEVERAL
+        return [f"limit reached: {limits[name]}{f', and {counts[name]:,} are needed' if counts[name] else ''}: {'; '.join([*ways[name], helps])}"
+                for name in reached]
 
 
 def keeps(newest: int) -> str:

@@ -1,6 +1,9 @@
 """Brings a folder or a maildir into an image, again and again: what is new, what has changed, and what is gone.
 
-usage: tools/sync [--as NAME] [--without PATTERN].. [--since DATE] [--newest N] [--reserve NUMBER] [--flat] [--lean] [--dry-run] [--verbose] [--all-gone] [--no-cache] [--ours[=PATH] | --theirs[=PATH]].. [--restore] IMAGE FOLDER
+usage: tools/sync [--as NAME] [--without PATTERN].. [--since DATE] [--newest N] [--reserve NUMBER] [--flat] [--lean] [--threads] [--dry-run] [--verbose] [--all-gone] [--no-cache] [--ours[=PATH] | --theirs[=PATH]].. [--restore] IMAGE FOLDER
+
+If IMAGE is missing, it is made: the smallest image that has room for the folder three times over, which a line says. If no image has room for
+the folder, nothing is made.
 
 The folder's own files have the word `sync:NAME` in the image. --as says which NAME, of at most 55 letters, digits and `_ - . + @`. Without it
 NAME is the folder's name and four digits that depend on its path. Only files with this word are written, given other words or removed: what
@@ -22,15 +25,15 @@ A file is named after its path below the folder, with `+` instead of `/`. If tha
 of its Message-ID, or of its path if it has none, and ends with `.eml`. So names are the same at each run.
 
 --without skips files and folders with such a name, as `.git` or `*.o`, and may be repeated. The image itself is skipped too, if it is in the
-folder, and its socket if it is served. No symbolic link below the folder is followed. Over a served image `sync` is a client of its server, and
+folder, its socket if it is served, and those that `tools/enlarge` kept. No symbolic link below the folder is followed. Over a served image `sync` is a client of its server, and
 what another client changes during the run is left as it is.
 
 --since DATE takes the files from a day, a month or a year on (2024-06-03, 2024-06, 2024), and --newest N the N newest files. The date of a
 mail is that of its header, and of another file the time of its last change. An older file does not come in. If it is in the image it is
 removed from it, unless somebody edited or renamed it there or gave it a word.
 
-The newest files come in first, so if the image has no room for all, the oldest are left out. A line says which limit was reached, and what
-helps. --reserve says how many of the words of the image stay free for you: a number, or a part such as 1/10 or 0.1. Without it this is a
+The newest files come in first, so if the image has no room for all, the oldest are left out. A line says which limit was reached, how much is
+needed, and what helps. --reserve says how many of the words of the image stay free for you: a number, or a part such as 1/10 or 0.1. Without it this is a
 twentieth.
 
 What a mail or a piece of music gave is kept in `$XDG_CACHE_HOME/lisfs`, or in `~/.cache/lisfs`, so that the next run reads only those whose
@@ -40,6 +43,7 @@ Files get words in this order, at most 15 beside `sync:NAME`:
   in:FOLDER       for each folder that it is in, unless --flat is given
   date:2024-06    of a mail, the month of its Date
   list:           its List-Id
+  thread:         the subject of the first mail of its thread, if --threads is given and the thread has another mail
   who:            those who wrote it, by name or otherwise by address
   about:          the words of its Subject that carry meaning
   who:            those who got it
@@ -50,6 +54,9 @@ image then has room for more mails and sources.
 
 Words that do not fit are counted: those beyond the 16 that a file is given, the 128 that it has in all, and the 48 that the program derives
 for it. A search by a derived word can miss a file whose words are cut.
+
+--threads gives the mails of each thread one word, so that they are found together: one word for each subject of a thread. A mail whose parent, by
+References and In-Reply-To, is not in the folder begins a thread. Without --threads all `thread:` words stay as they are, and new mails get none.
 
 --dry-run says what it would do, one line a file. It works on a copy of the image below the temporary folder, and no byte of the image
 changes. --verbose says what is done in the same way: each path that comes in, changes or is removed. The counts come at the end, and on a terminal there is a line of progress. If none of its
@@ -66,33 +73,33 @@ import contextlib
 import hashlib
 import os
 import re
-import signal
 import struct
 import sys
 from collections.abc import Sequence
 from fractions import Fraction
-from typing import NoReturn
 
-from lisfs import opening
+from lisfs import making, opening
 from lisfs.client import PROGRAM, Ended, Locked, NotAReply, Program, missing, socket_of
 from lisfs.constants import MAX_ASSIGNED, MAX_DERIVED, MAX_DESCRIPTION, MAX_WORD
 from lisfs.dumps import Dump, NotADump
-from lisfs.endings import folder_fault, quiet
+from lisfs.endings import Stopped, folder_fault, quiet, stop_at_signals
 from lisfs.folder.cache import Cache, Nothing, Remembered
 from lisfs.folder.carrying import Carrying, NoRoom, Sender, session_word
 from lisfs.folder.changes import MARKER, Changes, Done, Side, Wishes, folder_words
-from lisfs.folder.entries import Entries
+from lisfs.folder.entries import Entries, Entry
 from lisfs.folder.forms import folder_value
 from lisfs.folder.memory import Memory, Records
+from lisfs.folder.needs import can_be_lean
 from lisfs.folder.options import at_least_one, day, part_or_number
 from lisfs.folder.private import private_copy
 from lisfs.folder.report import Telling, counted, left_out
-from lisfs.folder.room import RESERVE, Room, kept_free
-from lisfs.image import limits_of
+from lisfs.folder.room import RESERVE, Room, beside_free, kept_free, needed
+from lisfs.limits import LARGEST, TIMES, Limits, beyond, limits_of, roomy
+from lisfs.making import kept_names
+from lisfs.progress import Progress
 from lisfs.showing import harmless, write_line
 from lisfs.words import PLAIN_FORM, PLAIN_RUN
 
-STOPS = (signal.SIGTERM, signal.SIGHUP)
 # What is counted, and the words of the report.
 COUNTED = {Done.NEW: "new", Done.CHANGED: "changed", Done.MOVED: "moved", Done.WORDS: "with other words", Done.GONE: "gone",
            Done.OLD: "removed as older"}
@@ -104,10 +111,6 @@ ONE_SIDE = re.compile(r"--(ours|theirs)=(.+)", re.S)
 
 class Failed(Exception):
     """What is wrong, in one line."""
-
-
-class Stopped(BaseException):
-    """A signal came that ends this program."""
 
 
 def default_name(folder: str) -> bytes:
@@ -127,6 +130,7 @@ class Options(argparse.Namespace):
     reserve: Fraction
     flat: bool
     lean: bool
+    threads: bool
     dry_run: bool
     verbose: bool
     all_gone: bool
@@ -149,23 +153,34 @@ class Sync:
         # Why what was brought in could not be kept, and what earlier runs brought in, if it is known.
         self.unkept: str | None = None
         self.known: Records | None = None
-        # How many files of each kind were done, and how many in all.
-        self.counts, self.done = dict.fromkeys(COUNTED, 0), 0
+        # How many files of each kind were done, and how far the changes are.
+        self.counts = dict.fromkeys(COUNTED, 0)
+        self.work = Progress(telling.line, "changing")
         # The entries so far, for a report after an early end.
         self.entries: Entries | None = None
         self.plan: Changes | None = None
         self.carrying: Carrying | None = None
+        # Why an image that was made has its limits.
+        self.why = ""
+        # Whether it was said before the first change that words will run short.
+        self.is_foretold = False
 
     def run(self) -> None:
+        if what := missing():
+            raise Failed(what)
         with contextlib.ExitStack() as stack:
-            if self.words.dry_run:
-                self.telling.clear()
-                self.path = stack.enter_context(private_copy(self.image))
-            room = self.look()
-            entries, remembered = self.read(room.limits.file_bytes)
+            if is_missing(self.image):
+                # Which image is needed depends on the folder.
+                entries, remembered = self.read(LARGEST.file_bytes)
+                self.make(self.choose(entries.all), stack)
+                room = self.look()
+            else:
+                if self.words.dry_run:
+                    self.path = stack.enter_context(private_copy(self.image))
+                room = self.look()
+                entries, remembered = self.read(room.limits.file_bytes)
             if not self.words.dry_run:
                 remembered.save()
-            self.telling.clear()
             program, dump = opening.opened("sync", self.path, session_word(), with_digests=True)
             with program:
                 # What another client changes from now on is not overwritten.
@@ -174,42 +189,62 @@ class Sync:
 
     def look(self) -> Room:
         """Checks that the image can be opened, before anything takes long, and finds what it has room for."""
-        if what := missing():
-            raise Failed(what)
         opening.tried("sync", self.path)
         try:
-            limits = limits_of(self.path)
+            # A line names the image, also if a copy is opened.
+            limits = limits_of(self.path)._replace(image=self.image)
         except (OSError, struct.error) as error:
             raise Failed(f"{self.image}: {error}") from None
+        return Room(limits, self.reserve(limits))
+
+    def reserve(self, limits: Limits) -> int:
+        """How many words of the image are kept free."""
         reserve = kept_free(self.words.reserve, limits.words)
         if reserve >= limits.words:
             raise Failed(f"--reserve {reserve}: {self.image} has room for {limits.words} known words in all")
-        return Room(limits, reserve)
+        return reserve
+
+    def choose(self, entries: Sequence[Entry]) -> Limits:
+        """The limits of an image for the folder, which has room for it three times over, or as much as an image can have."""
+        with Progress(self.telling.line, "counting words", len(entries)) as work:
+            need = needed(entries, self.marker, self.words.lean, lambda: work.add(1))
+        if lacks := beyond(need):
+            raise Failed(f"nothing was made: {harmless(self.folder)} has {'; '.join(map(str, lacks))}: --newest N takes the newest, and several images "
+                         "hold more (docs/guide/other-machines.md)")
+        times = need.times(TIMES)
+        wanted = times._replace(words=beside_free(times.words, self.words.reserve))
+        limits = roomy(wanted)
+        self.reserve(limits)
+        self.why = f"{'as near as an image can be to ' if beyond(wanted) else ''}three times the {need} of {harmless(self.folder)}"
+        return limits
+
+    def make(self, limits: Limits, stack: contextlib.ExitStack) -> None:
+        """Makes the image that is missing; for a dry run elsewhere, until it ends."""
+        if self.words.dry_run:
+            import tempfile
+            self.path = os.path.join(stack.enter_context(tempfile.TemporaryDirectory(prefix="lisfs-")), "image")
+        making.make(self.path, limits)
+        self.telling.tell(f"{'would make' if self.words.dry_run else 'made'} {harmless(self.image)} for {limits}, of version {limits.version}: {self.why}")
 
     def read(self, largest: int) -> tuple[Entries, Cache]:
         """Looks at the files of the folder."""
-        looked = 0
-
-        def look() -> None:
-            nonlocal looked
-            looked += 1
-            self.telling.progress(lambda: f"{counted(looked, 'file')} looked at")
-
         remembered: Cache = Nothing()
         if not self.words.no_cache:
             remembered = Remembered(self.folder)
         folders = no_words if self.words.flat else folder_words
-        self.entries = entries = Entries(self.folder, largest, folders, self.telling.leave, look, self.words.without, own_files(self.image), remembered)
+        self.entries = entries = Entries(self.folder, largest, folders, self.telling.leave, self.telling.line, self.words.without,
+                                         own_files(self.image), remembered, self.words.threads)
         entries.read()
         entries.choose(self.words.since, self.words.newest)
         return entries, remembered
 
     def make_plan(self, entries: Entries, dump: Dump, program: Program) -> Changes:
         named = {within(self.folder, path): side for path, side in self.words.named.items()}
-        wishes = Wishes(self.words.side, named, self.words.restore)
+        wishes = Wishes(self.words.side, named, self.words.restore, self.words.threads)
         self.known = self.memory.read(dump.declared)
-        plan = Changes(entries.all, dump, self.marker, self.words.lean, self.known, wishes, entries.walk.is_blind, lambda name: program.cat(name).body,
-                       self.folder)
+        with Progress(self.telling.line, "comparing", len(entries.all)) as work:
+            plan = Changes(entries.all, dump, self.marker, self.words.lean, self.known, wishes, entries.walk.is_blind,
+                           lambda name: program.cat(name).body, self.folder, work.add)
         if plan.own and not plan.kept and not plan.is_blind and not self.words.all_gone:
             raise Failed(f"nothing was done: none of the {counted(plan.own, 'file')} of {self.marker.decode()} is in {self.folder} any "
                          "more; --all-gone removes them anyway")
@@ -219,7 +254,9 @@ class Sync:
         return plan
 
     def carry(self, program: Program, plan: Changes, room: Room) -> None:
-        self.carrying = carrying = Carrying(Sender(program), plan, room, self.told, self.failed)
+        self.work = Progress(self.telling.line, "changing", len(plan.changes) + len(plan.gone), plan.size())
+        self.carrying = carrying = Carrying(Sender(program, self.work.add), plan, room, self.told, self.failed, self.runs_short)
+        self.foretell(carrying)
         carrying.declare()
         before, coming = set(carrying.memories), None
         if not plan.is_nothing():
@@ -230,6 +267,22 @@ class Sync:
             is_other = self.remember(carrying, plan.seen()) != coming and coming is not None and coming not in before
             if is_other and coming is not None and not self.words.dry_run:
                 self.memory.forget(coming)
+
+    def foretell(self, carrying: Carrying) -> None:
+        """Says before the first change that there are not enough words for all, if --lean needs fewer."""
+        with Progress(self.telling.line, "counting words", sum(change.is_new for change in carrying.plan.changes)) as work:
+            needs = carrying.needs(work.add)
+        if needs and needs.helps():
+            self.is_foretold = True
+            self.telling.tell(f"{harmless(self.image)}: not enough known words ({counted(needs.files, 'new file')} need {needs.words:,}, and "
+                              f"{needs.free:,} are free): --lean needs {needs.lean:,}{', also too many' if needs.lean > needs.free else ''}: {lean_command()}")
+
+    def runs_short(self, begun: int) -> None:
+        """Says in the middle of a run that words run short, if --lean helps and this was not foretold."""
+        if self.carrying and can_be_lean(self.carrying.plan) and not self.is_foretold:
+            room = self.carrying.room
+            self.telling.tell(f"{harmless(self.image)}: known words run short after {begun:,} of {len(self.carrying.plan.changes):,} changes "
+                              f"({room.limits.words:,} in all, {room.reserve:,} of them kept free): --lean needs fewer: {lean_command()}")
 
     def remember(self, carrying: Carrying, records: Records) -> bytes | None:
         """Keeps what was brought in, and makes the image name it by a word, which it returns. If that is impossible, the image names nothing."""
@@ -243,7 +296,7 @@ class Sync:
         return word
 
     def told(self, what: Done, name: bytes, more: str = "") -> None:
-        self.count()
+        self.work.add(1)
         if what is not Done.SAME:
             self.counts[what] += 1
             self.telling.tell_file(f"{what.value}: {name.decode()}" + (f": {harmless(more)}" if more else ""))
@@ -251,14 +304,8 @@ class Sync:
             self.plan.same += 1
 
     def failed(self, path: str, why: str) -> None:
-        self.count()
+        self.work.add(1)
         self.telling.leave(path, why)
-
-    def count(self) -> None:
-        self.done += 1
-        if self.plan:
-            total = len(self.plan.changes) + len(self.plan.gone)
-            self.telling.progress(lambda: f"{self.done} of {total} changes")
 
     def report(self) -> None:
         """Prints the counts, as far as they are known."""
@@ -348,11 +395,25 @@ class Sync:
         return not (carrying and (carrying.without or carrying.too_many or carrying.lean or carrying.is_forgetful))
 
 
+def is_missing(image: str) -> bool:
+    """Whether there is no image. A link that leads nowhere may lead to a disk that is not mounted, and a socket to a server that has the image."""
+    return not os.path.lexists(image) and not os.path.lexists(socket_of(image))
+
+
+def lean_command() -> str:
+    """The command of this run, with --lean."""
+    # Few runs are short of words.
+    import shlex
+    tool, *words = sys.argv
+    return harmless(shlex.join([tool, "--lean", *words]))
+
+
 def own_files(image: str) -> list[os.stat_result]:
-    """The image, and its socket if it is served: neither is one of the folder's files."""
-    found = [os.stat(image)]
-    with contextlib.suppress(OSError):
-        found.append(os.lstat(socket_of(image)))
+    """The image, its socket if it is served, and those from before it was enlarged: none of them is one of the folder's files."""
+    found: list[os.stat_result] = []
+    for path in (image, socket_of(image), *kept_names(image)):
+        with contextlib.suppress(OSError):
+            found.append(os.stat(path) if path == image else os.lstat(path))
     return found
 
 
@@ -384,10 +445,6 @@ def cause(error: BaseException, image: str) -> str:
     return str(error)
 
 
-def stop(*_: object) -> NoReturn:
-    raise Stopped
-
-
 def apart(given: Sequence[str]) -> tuple[list[str], list[tuple[str, Side]]]:
     """The words of a command line without those that settle one conflict, and these: each a path and a side."""
     end = given.index("--") if "--" in given else len(given)
@@ -405,6 +462,7 @@ def options() -> Options:
     parser.add_argument("--reserve", type=part_or_number, default=RESERVE)
     parser.add_argument("--flat", action="store_true")
     parser.add_argument("--lean", action="store_true")
+    parser.add_argument("--threads", action="store_true")
     parser.add_argument("--dry-run", action="store_true")
     parser.add_argument("--verbose", action="store_true")
     parser.add_argument("--all-gone", action="store_true")
@@ -435,10 +493,7 @@ def main() -> int:
     if fault := folder_fault(words.folder):
         write_line(sys.stderr, f"sync: {fault}")
         return 2
-    for number in STOPS:
-        # A signal that is ignored, as by `nohup`, stays ignored.
-        if signal.getsignal(number) == signal.SIG_DFL:
-            signal.signal(number, stop)
+    stop_at_signals()
     telling = Telling("sync", sys.stdout, words.verbose or words.dry_run)
     syncing = Sync(words, telling)
     amiss: str | None = None
@@ -449,7 +504,7 @@ def main() -> int:
     except (Ended, Failed, NoRoom, NotADump, NotAReply, OSError, RuntimeError, KeyboardInterrupt, Stopped) as error:
         amiss = cause(error, words.image).replace(syncing.path, words.image)
         amiss += "; the next run goes on" if syncing.carrying and not words.dry_run else ""
-    telling.clear()
+    telling.line.clear()
     syncing.report()
     sys.stdout.flush()
     if amiss:

@@ -165,9 +165,9 @@ def below(top: str, parts: Parts) -> Iterator[int]:
     at = os.open(top, THROUGH)
     try:
         for part in parts:
-            inner = os.open(part, THROUGH | os.O_NOFOLLOW, dir_fd=at)
-            os.close(at)
-            at = inner
+            # In this order, a signal that raises an error closes nothing twice.
+            at, outer = os.open(part, THROUGH | os.O_NOFOLLOW, dir_fd=at), at
+            os.close(outer)
         yield at
     finally:
         os.close(at)

@@ -18,7 +18,7 @@ import os
 from lisfs.client import Ended, NotAReply, missing
 from lisfs.dumps import NotADump
 from lisfs.endings import cause_of, folder_fault, quiet, say
-from lisfs.image import limits_of
+from lisfs.limits import limits_of
 from lisfs.mount.attach import NotMounted, answered, mounted, stops
 from lisfs.mount.image import Image
 from lisfs.mount.kernel import Connection

@@ -17,7 +17,7 @@ from lisfs.client import NotSent, Program, Refused
 from lisfs.constants import MAX_ASSIGNED, MAX_DESCRIPTION, MAX_LINE, MAX_WORD
 from lisfs.dumps import Dump
 from lisfs.formulas import Place
-from lisfs.image import Limits
+from lisfs.limits import Limits
 from lisfs.mount.nodes import File
 from lisfs.words import TEST, head_of, is_head, is_plain, is_test, is_word
 

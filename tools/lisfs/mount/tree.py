@@ -59,6 +59,7 @@ def answering(call: Call) -> Call:
         except Refused as refused:
             # Few mounts meet a refusal, and its table is large.
             from lisfs.refusals import error_of
+            tree.say_full(refused)
             raise fault(error_of(refused.number), str(refused)) from None
         except (TooLarge, NotSent) as error:
             raise fault(errno.ENAMETOOLONG, str(error)) from None
@@ -135,6 +136,15 @@ class Tree:
         self.handed: dict[int, int] = {}
         # Whether something that was written is not in the image, and no error was returned for it.
         self.has_lost = False
+        # What of a full image was reported.
+        self.reported: set[int] = set()
+
+    def say_full(self, refused: Refused) -> None:
+        """Says once what a full image has no room for, and what helps: an error of a file system has no place for it."""
+        from lisfs.limits import full
+        if refused.number not in self.reported and (found := full(refused.number, self.image.limits)):
+            self.reported.add(refused.number)
+            say(f"mount: the image is full: {found.most}: {found.helps}")
 
     def _begin(self, file: File, mode: int, user: int, group: int) -> None:
         file.looks = Looks(mode, user, group, self.touched)

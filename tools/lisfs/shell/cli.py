@@ -24,7 +24,7 @@ import sys
 from lisfs.client import Ended, Locked, NotAReply, missing
 from lisfs.dumps import NotADump
 from lisfs.endings import quiet
-from lisfs.image import limits_of
+from lisfs.limits import limits_of
 from lisfs.opening import opened
 from lisfs.shell.completing import Completer
 from lisfs.shell.earlier import Earlier

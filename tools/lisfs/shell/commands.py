@@ -71,7 +71,8 @@ LEADS = (BAD_FORMULA, LARGE_FORMULA, UNKNOWN_PROPERTY)
 COMMANDS = {
     "ls": command("ls [-a] [-c] [PLACE]", "lists words that narrow the place, and other files", Part.FORMULA, needed=0,
                   more="On a terminal the words stand by their heads, the most frequent first, each with the number of files that are left after "
-                       f"`cd WORD`; of more than {SOME} words of a head only -a shows all. In a script, and with -c, each has a line: `d` marks a word, "
+                       f"`cd WORD`; of more than {SOME} words of a head only -a shows all. Of mails that tools/sync took in, who:, about: and "
+                       "thread: come first, and from:, to: and subject: last. In a script, and with -c, each has a line: `d` marks a word, "
                        "and `f` a file that no word covers; -c puts the number before the word. PLACE is a formula as in `cd`; you stay where "
                        "you are."),
     "cd": command("cd FORMULA", "goes to a place", Part.FORMULA, refusals=LEADS,

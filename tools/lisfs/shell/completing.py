@@ -5,6 +5,7 @@ from collections.abc import Iterable, Sequence
 from typing import NamedTuple
 
 from lisfs.client import Ended, NotAReply, NotSent
+from lisfs.listings import by_rank
 from lisfs.shell.commands import COMMANDS, Part
 from lisfs.shell.session import Session
 from lisfs.shell.terminal import HAS_READLINE, Screen, Stopped, in_columns
@@ -79,9 +80,10 @@ class Completer:
         return self.found[state] if state < len(self.found) else None
 
     def show(self, begun: str, found: Sequence[str], _: int) -> None:
-        """Shows the candidates that fit the screen, and the line again. For a formula or a path only the last word is shown."""
+        """Shows the candidates that fit the screen, the more useful heads first, and the line again. For a formula or a path only the last word is
+        shown."""
         at = max(map(begun.rfind, "/|!(")) + 1
-        texts = [harmless(os.fsencode(one[at:].rstrip())) for one in found[:SHOWN]]
+        texts = [harmless(one.rstrip()) for one in by_rank(os.fsencode(one[at:]) for one in found)[:SHOWN]]
         lines = in_columns(texts, max(map(len, texts)) + 2) + ([f"and {len(found) - SHOWN:,} more"] if len(found) > SHOWN else [])
         line = readline.get_line_buffer()
         self.screen.again(lines, line, len(os.fsencode(line)[readline.get_endidx():].decode(errors="replace")))

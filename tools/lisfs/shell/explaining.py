@@ -12,6 +12,7 @@ from lisfs import constants
 from lisfs.client import Refused, words_of
 from lisfs.constants import MAX_ASSIGNED, MAX_DESCRIPTION, MAX_DIGITS, MAX_FORMULA, MAX_LARGE_FILE, MAX_NODES
 from lisfs.formulas import words_in
+from lisfs.limits import blocks_of, full
 from lisfs.refusals import MEANT, meaning, without_blanks
 from lisfs.shell.commands import COMMANDS, FILES, WORDS, Part, most_of_line
 from lisfs.shell.session import Session
@@ -222,20 +223,15 @@ def file_too_large(command: str, given: Words, session: Session) -> str:
     return f"{said(*given[:1])}: it has {many} bytes, and a file of this image at most {session.limits.file_bytes:,}"
 
 
-def no_file_room(command: str, given: Words, session: Session) -> str:
-    return f"{said(*given[:1])}: the image has no room for another file: `rm` one, or take a larger image"
-
-
-def no_word_room(command: str, given: Words, session: Session) -> str:
-    return f"{said(*given[:1])}: the image has no room for more words: take some back, or take a larger image"
-
-
-def no_axiom_room(command: str, given: Words, session: Session) -> str:
-    return f"{said(*given)}: the image has no room for another axiom: take one back, or take a larger image"
-
-
-def no_space(command: str, given: Words, session: Session) -> str:
-    return f"{said(*given[:1])}: the image has no room for its bytes: `rm` files with bytes, or take a larger image"
+def no_room(number: int, room: str, way: str) -> Explanation:
+    """The explanation for a full image: what it has no room for, and a way to make room in it."""
+    def explain(command: str, given: Words, session: Session) -> str:
+        about = given if command == "axiom" else given[:1]
+        more = blocks_of(int(given[1])) if number == constants.NO_SPACE and command in ("add", "write") else 0
+        found = full(number, session.limits, more)
+        assert found
+        return f"{said(*about)}: the image has no room for {room} ({found.most}): {way}; or {found.helps}"
+    return explain
 
 
 def built_in(command: str, given: Words, session: Session) -> str:
@@ -269,10 +265,10 @@ SENTENCES: dict[int, Explanation] = {
     constants.TOO_MANY_ASSIGNED: too_many_given,
     constants.LARGE_DESCRIPTION: too_many_had,
     constants.LARGE_FILE: file_too_large,
-    constants.NO_FILE_ROOM: no_file_room,
-    constants.NO_PROPERTY_ROOM: no_word_room,
-    constants.NO_AXIOM_ROOM: no_axiom_room,
-    constants.NO_SPACE: no_space,
+    constants.NO_FILE_ROOM: no_room(constants.NO_FILE_ROOM, "another file", "`rm` one"),
+    constants.NO_PROPERTY_ROOM: no_room(constants.NO_PROPERTY_ROOM, "more words", "take some back"),
+    constants.NO_AXIOM_ROOM: no_room(constants.NO_AXIOM_ROOM, "another axiom", "take one back"),
+    constants.NO_SPACE: no_room(constants.NO_SPACE, "its bytes", "`rm` files with bytes"),
     constants.BUILT_IN: built_in,
     constants.NOT_IN_FORM: of_put(constants.NOT_IN_FORM),
     constants.OTHER_MARKS: of_put(constants.OTHER_MARKS),

@@ -15,7 +15,8 @@ from lisfs.constants import UNKNOWN_PROPERTY
 from lisfs.dumps import Axiom, Dump
 from lisfs.formulas import Instead, without, words_in
 from lisfs.formulas import formula as read_formula
-from lisfs.image import Following, Limits
+from lisfs.image import Following
+from lisfs.limits import Limits
 from lisfs.index import File, Index
 from lisfs.shell.undoing import UNDOABLE, Change, moving, tags_of, undoing
 from lisfs.words import head_of, is_plain, is_test

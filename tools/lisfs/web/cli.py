@@ -27,7 +27,7 @@ from types import FrameType
 from lisfs.client import Ended, NotAReply, missing
 from lisfs.dumps import NotADump
 from lisfs.endings import cause_of, quiet, say
-from lisfs.image import limits_of
+from lisfs.limits import limits_of
 from lisfs.opening import opened
 from lisfs.web.connections import WAITING, Connections
 from lisfs.web.image import Image

@@ -14,7 +14,8 @@ from lisfs.constants import IN_USE, NO_FILE_HERE, REFUSAL_WORDS, UNKNOWN_PROPERT
 from lisfs.dumps import Axiom, Dump
 from lisfs.index import File
 from lisfs.formulas import Instead, replaced, without, words_in
-from lisfs.refusals import MEANT, about
+from lisfs.limits import Limits, full
+from lisfs.refusals import MEANT, about, sentence_about
 from lisfs.web.places import Place
 from lisfs.words import head_of, is_head, is_plain, is_test, is_word
 
@@ -71,7 +72,7 @@ def text(data: bytes) -> str:
 
 
 class Image(image.Image[File]):
-    def __init__(self, program: Program, dump: Dump, limits: image.Limits) -> None:
+    def __init__(self, program: Program, dump: Dump, limits: Limits) -> None:
         super().__init__(program, dump, limits)
         self.axioms = set(dump.axioms)
         self.last: Undo | None = None
@@ -134,6 +135,11 @@ class Image(image.Image[File]):
         lefts = {left for left, _ in self.axioms}
         known = {word for word in (*self.index.words(), *self.declared, *lefts, *map(head_of, lefts)) if word}
         return about(refused, known if refused.command == "cd" else self.declared)
+
+    def sentence(self, refused: Refused, command: str | None) -> str:
+        """The sentence of a refusal of a command, with the words that it is about, and what helps if the image is full."""
+        told, filled = sentence_about(refused.number, command, self.about(refused)), full(refused.number, self.limits)
+        return f"{told} It has {filled.most}: {filled.helps}." if filled else told
 
     def meant(self, refused: Refused, formula: bytes) -> list[bytes]:
         """If no file has a value of a formula: the formulas with values that begin with it, which may have been meant."""

@@ -7,8 +7,7 @@ from lisfs.client import Retagged
 from lisfs.constants import MAX_FORMULA
 from lisfs.formulas import words_in
 from lisfs.index import File
-from lisfs.listings import TITLES, groups_of, within
-from lisfs.refusals import sentence_about
+from lisfs.listings import TITLES, by_rank, groups_of, within
 
 from lisfs.web.contents import SHOWN, Mail, cut, mail_of, text_of
 from lisfs.web.image import Image, View
@@ -128,12 +127,12 @@ def turns(at: int, size: int, length: int, page: str, /, **given: bytes | None) 
 def described(file: File) -> list[tuple[str, list[Word]]]:
     """All words of a file, those that it was given first."""
     heads = {head for word in file.words if (head := head_of(word)) is not None}
-    others = sorted(word for word in file.words - file.given if word not in heads)
-    bare = sorted(head for head in heads if head in file.words
-                  and not any(word != head and head_of(word) == head for word in file.words))
-    above = sorted(heads & file.words - set(bare) - file.given)
+    others = by_rank(word for word in file.words - file.given if word not in heads)
+    bare = by_rank(head for head in heads if head in file.words
+                   and not any(word != head and head_of(word) == head for word in file.words))
+    above = by_rank(heads & file.words - set(bare) - file.given)
     return [(told, [word_of(word, word in file.given) for word in words]) for told, words in (
-        ("given", sorted(file.given)), ("on its own, or by another word", others + bare), ("their heads", above)) if words]
+        ("given", by_rank(file.given)), ("on its own, or by another word", others + bare), ("their heads", above)) if words]
 
 
 def content_of(file: File, content: bytes, as_text: bool) -> Content:
@@ -166,7 +165,7 @@ class Pages:
     def refused(self, made: Retagged, back: Link) -> str:
         """A page that says for which files a change was refused."""
         done = f"{counted(len(made.done), 'file')} changed. " if made.done else ""
-        rows = [(change.name, sentence_about(refused.number, "mv", self.image.about(refused))) for change, refused in made.refused]
+        rows = [(change.name, self.image.sentence(refused, "mv")) for change, refused in made.refused]
         return self.whole("refused.html", "Refused", told=f"{done}Refused: {counted(len(rows), 'file')}.", rows=rows, back=address(back.page, **back.given))
 
     def missing(self, words: list[bytes]) -> str | None:

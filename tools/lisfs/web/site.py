@@ -229,7 +229,7 @@ class Site:
             wrong.is_known = True
             return self.refused(wrong)
         except Refused as refused:
-            told, status = self._told_of(refused), 404 if refused.number == NO_FILE_HERE else 409
+            told, status = self.image.sentence(refused, refused.command or None), 404 if refused.number == NO_FILE_HERE else 409
         except WrongWord as wrong_word:
             told, status = sentence_about(BAD_LINE, None, [word for word in wrong_word.args if word]), 409
         except NothingToUndo:
@@ -253,10 +253,6 @@ class Site:
         given = self._given(request, body)
         meant = [given[name] for name in MEANT if given.get(name)]
         return Answer(status, HTML, self.pages.told(TITLES[status], told, self._back(given), meant).encode())
-
-    def _told_of(self, refused: Refused) -> str:
-        """The sentence of a refusal, with the words that it is about."""
-        return sentence_about(refused.number, refused.command or None, self.image.about(refused))
 
     def refused(self, wrong: Wrong) -> Answer:
         """The answer to a request that is refused. To an unknown client it says nothing that not everybody may know."""
@@ -324,7 +320,7 @@ class Site:
         try:
             view, instead = self.image.found(typed or b"/")
         except Refused as refused:
-            return self._page(self.pages.wrong_place(typed, self._told_of(refused), self.image.meant(refused, typed)), 404)
+            return self._page(self.pages.wrong_place(typed, self.image.sentence(refused, refused.command or None), self.image.meant(refused, typed)), 404)
         except NotSent:
             # It has blanks, or is too long for a line.
             meant, number = joined(typed.split()), LARGE_FORMULA if len(typed) > MAX_FORMULA else BAD_FORMULA

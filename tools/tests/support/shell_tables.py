@@ -70,8 +70,9 @@ NO_WORDS = "which has `|`, `!` or a test in it, and so no words to give it"
 NOT_FROM = "one of them has `|`, `!` or a test in it, and so no words of its own"
 ELSEWHERE = (10, "song: this file is not here, but elsewhere; all files are at `/`")
 TOO_MANY = (18, "x: a file is given at most 16 words, those of the place counted")
-MORE_WORDS = "take some back, or take a larger image"
-MORE_AXIOMS = "the image has no room for another axiom: take one back, or take a larger image"
+FREE = "makes room once no program has it open"
+MORE_WORDS = f"(at most 64 known words): take some back; or `tools/enlarge image 64 128 8` {FREE}"
+MORE_AXIOMS = f"the image has no room for another axiom (at most 64 axioms): take one back; or `tools/enlarge image 64 128 8` {FREE}"
 BY_THEMSELVES = "files have such words on their own, and nobody gives or declares them"
 WORDS = [b"w%02d" % k for k in range(17)]
 MANY = b"".join(b"mkdir %b\n" % word for word in WORDS)
@@ -129,11 +130,11 @@ REFUSED = (
     (SMALL, b"add x 65537\n" + bytes(65_537) + b"\n", (20, "x: it has 65,537 bytes, and a file of this image at most 65,536")),
     ((*SMALL, "v2"), b"add x 1048577\n" + bytes(1_048_577) + b"\n",
      (20, "x: it has more than 1,048,576 bytes, and a file of this image at most 1,048,576")),
-    (SMALL, FULL + b"create x\n", (21, "x: the image has no room for another file: `rm` one, or take a larger image")),
-    (SMALL, b"".join(b"mkdir w%02d\n" % k for k in range(65)), (22, f"w64: the image has no room for more words: {MORE_WORDS}")),
+    (SMALL, FULL + b"create x\n", (21, f"x: the image has no room for another file (at most 64 files): `rm` one; or `tools/enlarge image 128 64 8` {FREE}")),
+    (SMALL, b"".join(b"mkdir w%02d\n" % k for k in range(65)), (22, f"w64: the image has no room for more words {MORE_WORDS}")),
     (SMALL, MANY + PAIRS, (23, f"w11, w09: {MORE_AXIOMS}"), (23, f"w11, w10: {MORE_AXIOMS}")),
     (SMALL, b"add x 32769\n" + bytes(32_769) + b"\n",
-     (24, "x: the image has no room for its bytes: `rm` files with bytes, or take a larger image")),
+     (24, f"x: the image has no room for its bytes (at most 8 blocks): `rm` files with bytes; or `tools/enlarge image 64 64 17` {FREE}")),
     (SMALL, b"mkdir size:\nrmdir ext:c\nmkdir a\ncreate x a ext:c size:small\n", (25, f"size:: {BY_THEMSELVES}"),
      (25, f"ext:c: {BY_THEMSELVES}"), (25, f"ext:c, size:small: {BY_THEMSELVES}")),
 )

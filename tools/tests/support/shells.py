@@ -5,7 +5,7 @@ from collections.abc import Iterator
 from typing import Any
 
 from lisfs.dumps import opened
-from lisfs.image import limits_of
+from lisfs.limits import limits_of
 from lisfs.shell.running import Shell, as_a_script
 from lisfs.shell.session import Session
 from lisfs.shell.terminal import OUTPUT, Interrupts, Screen
