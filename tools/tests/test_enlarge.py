@@ -22,7 +22,7 @@ from support.images import content, dump, session, usage, written
 from support.peers import Served
 from support.running import told
 from support.syncing import sync
-from support.waiting import LONG
+from support.waiting import LONG, until
 
 pytestmark = pytest.mark.usefixtures("program")
 ENLARGE = [sys.executable, tool("enlarge")]
@@ -330,6 +330,11 @@ def killed_after(seconds, *words):
         process.wait(LONG)
 
 
+def is_free():
+    """Whether no program has the image open: of a killed group some may end only a moment later."""
+    return b"in use by another lisfs" not in usage(PROGRAM, "dump", "image")
+
+
 def test_kills():
     """SIGKILL of the whole process group, at moments that are spread over a run. The image is at its name and whole after each."""
     chance = random.Random(1)
@@ -341,6 +346,7 @@ def test_kills():
     whole, ended = 1.2 * (time.monotonic() - began), 0
     for number in range(KILLS):
         ended += killed_after(whole * (number + chance.random()) / KILLS, "image", "64", "128", str(100 + number))
+        assert until(is_free)
         assert dump() == before, f"kill {number}"
         for name in making.kept_names("image"):
             assert dump(name) == before, f"kill {number}: {name}"
