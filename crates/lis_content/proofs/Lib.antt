@@ -1,5 +1,6 @@
 pub mod Numbers
 pub mod Indexes
+mod Examples
 pub mod Files
 mod IndexesRead
 mod Taking
