@@ -207,11 +207,12 @@ def test_in_use(rooms):
 
 # Programs that run the real one, and do something more.
 WRAPPERS = {
-    # Another program puts a file into the old image after the larger one was filled, or after it was compared.
+    # Another program puts a file into the old image after the larger one was filled, or after both were shown to be compared.
     "filled": ('"$REAL" "$@"; s=$?; [ "$1" != load ] || echo "create late" | "$REAL" run image >late; exit $s',
                "the dump of the larger image is not that of the old one"),
-    "compared": ('"$REAL" "$@"; s=$?; if [ "$1$2" != dumpimage ] && [ "$1" = dump ]; then until echo "create late" | "$REAL" run image >late 2>&1; do :; done; '
-                 'fi; exit $s', "another program has changed it meanwhile; run this again"),
+    "compared": ('"$REAL" "$@"; s=$?; case "$1 $2" in "load "*) touch filled;; "dump image") [ ! -e filled ] || touch shown;; '
+                 '"dump "*) until [ -e shown ]; do sleep 0.01; done; until echo "create late" | "$REAL" run image >late 2>&1; do :; done;; esac; exit $s',
+                 "another program has changed it meanwhile; run this again"),
     "dump": ('"$REAL" "$@"; [ "$1" != dump ] || exit 3', "the program ended with 3"),
     "load": ('"$REAL" "$@"; [ "$1" != load ] || { echo "lisfs: disk fault" >&2; exit 3; }', "lisfs: disk fault"),
     "cut": ('if [ "$1" = load ]; then head -c 100 >cut; "$REAL" "$@" <cut; else "$REAL" "$@"; fi', "the larger image refuses what the old one has"),
