@@ -4,7 +4,7 @@ use Rattle.std.proofs.lemmas.Bool.{lt-ltb}
 use Rattle.std.proofs.lemmas.List.{length-map}
 use Rattle.std.proofs.lemmas.List.Folds.{list_all-map}
 use Rattle.std.proofs.lemmas.List.Sums.{count_by-le-length}
-use Rattle.lis_limits.specs.declared.TheConstants.{MAX_FILES}
+use Rattle.lis_limits.specs.declared.TheConstants.{V3_MAX_FILES}
 use Rattle.lis_graph.specs.Again.{IsFirstAgain}
 use Rattle.lis_graph.specs.Inside.{IsUnsorted, RisesByName, IsLeastRepeat}
 use Rattle.lis_graph.proofs.Repeats.{within, at_most_once, rise, first_again as first_name_again}
@@ -17,12 +17,12 @@ use Rattle.lis_catalog.specs.Catalog.{Filed, rec_at, IsCatalog}
 use Rattle.lis_catalog.specs.Inside.{Records, no_record, record_in, name_in, filed_in, catalog_of, IsHeld}
 use Rattle.lis_catalog.proofs.Order.{word_order, word_exact}
 
-module _ (records : Records) (order : List ℕ) (room : ℕ) (h : IsUnsorted MAX_FILES records order room) (by_name : RisesByName word_cmp (name_in records) order) where
+module _ (records : Records) (order : List ℕ) (room : ℕ) (h : IsUnsorted V3_MAX_FILES records order room) (by_name : RisesByName word_cmp (name_in records) order) where
   recorded : (n : ℕ) (rec : FileRecord) → get_or records n None ≡ Some rec → record_in records n ≡ rec
   recorded n rec is = ap (λ (o : Option FileRecord). unwrap_or o no_record) is
 
   pub first_again : (n : ℕ) → IsLeastRepeat (name_in records) order (length order) (Some n) → IsFirstAgain (λ (rec : FileRecord). rec.name) records n
-  first_again = first_name_again word_cmp word_order (name_in records) word_exact order by_name (λ (rec : FileRecord). rec.name) MAX_FILES records room h (λ n rec is. ap (λ (r : FileRecord). r.name) (recorded n rec is))
+  first_again = first_name_again word_cmp word_order (name_in records) word_exact order by_name (λ (rec : FileRecord). rec.name) V3_MAX_FILES records room h (λ n rec is. ap (λ (r : FileRecord). r.name) (recorded n rec is))
 
   module _ (none : IsLeastRepeat (name_in records) order (length order) None) (forms : (k : ℕ) → k < length order → IsTrue (is_file_name (name_in records (get_or order k 0)))) where
     is_catalog : IsCatalog (catalog_of (length records) records order)
@@ -31,13 +31,13 @@ module _ (records : Records) (order : List ℕ) (room : ℕ) (h : IsUnsorted MAX
       forms = list_all-map is_file_name (λ (f : Filed). f.rec.name) (map (filed_in records) order) ∙ all_pass (filed_in records) (λ (f : Filed). is_file_name f.rec.name) order forms;
       below =
           list_all-map (λ (slot : ℕ). nat_lt slot (length records)) (λ (f : Filed). f.slot) (map (filed_in records) order)
-          ∙ all_pass (filed_in records) (λ (f : Filed). nat_lt f.slot (length records)) order (λ k lt. lt-ltb (get_or order k 0) (length records) (within MAX_FILES records order room h k lt));
-      apart = ap are_distinct (keys (filed_in records) (λ (f : Filed). f.slot) (λ n. refl) order) ∙ distinct_from order (at_most_once MAX_FILES records order room h);
+          ∙ all_pass (filed_in records) (λ (f : Filed). nat_lt f.slot (length records)) order (λ k lt. lt-ltb (get_or order k 0) (length records) (within V3_MAX_FILES records order room h k lt));
+      apart = ap are_distinct (keys (filed_in records) (λ (f : Filed). f.slot) (λ n. refl) order) ∙ distinct_from order (at_most_once V3_MAX_FILES records order room h);
       few = omega (arith, length-map order (filed_in records), h.counted, count_by-le-length is_some records);
     }
 
     pub told : (n : ℕ) → get_or records n None ≡ rec_at (catalog_of (length records) records order) n
-    told = told_by_entries (filed_in records) (λ (f : Filed). f.slot) (λ n. refl) (λ (f : Filed). f.rec) MAX_FILES records order room h recorded
+    told = told_by_entries (filed_in records) (λ (f : Filed). f.slot) (λ n. refl) (λ (f : Filed). f.rec) V3_MAX_FILES records order room h recorded
 
     pub held : IsHeld (length records) records order room
     held = record {

@@ -2,7 +2,7 @@
 use Rattle.std.specs.Prelude.{◌≡◌, ℕ, zero, suc, ◌≤◌, ◌==◌, Bool, Option, None, is_some, List, [], ◌∷◌, length, map, count_by, slice_index_or, unwrap_or}
 use Rattle.std.specs.declared.cmp.Ordering.TheVariants.{Less, Equal, Greater}
 use Rattle.std.specs.List.{list_any}
-use Rattle.lis_limits.specs.declared.TheConstants.{MAX_FILES}
+use Rattle.lis_limits.specs.declared.TheConstants.{V3_MAX_FILES}
 use Rattle.lis_words.specs.Words.{word_cmp}
 use Rattle.lis_fields.specs.Records.{FileRecord}
 use Rattle.lis_catalog.specs.Catalog.{Filed, Catalog, rec_at, IsCatalog}
@@ -33,7 +33,7 @@ catalog_of files records order = record { files = files; entries = map (filed_in
 pub record IsHeld (files : ℕ) (records : Records) (order : List ℕ) (room : ℕ) : Type 0 where
   -- each slot is once in the order, and the names rise
   pub catalog : IsCatalog (catalog_of files records order)
-  pub limit : files ≤ MAX_FILES
+  pub limit : files ≤ V3_MAX_FILES
   pub has_room : files ≤ room
   pub long : length records ≡ files
   -- exactly the slots in the order have a record

@@ -2,7 +2,7 @@ ghost use Rattle.std.specs.Prelude.{◌≡◌, ◌<◌, ◌≤◌, [], length, N
 ghost use Rattle.std.specs.Option.{option_map};
 ghost use Rattle.std.specs.List.Sorted.{IsSearchInRange};
 ghost use Rattle.lis_words.specs.Words.{is_file_name};
-ghost use Rattle.lis_limits.specs.declared.TheConstants.{MAX_FILES};
+ghost use Rattle.lis_limits.specs.declared.TheConstants.{V3_MAX_FILES};
 ghost use Rattle.lis_catalog.specs.Catalog.{Filed, slots, slot_of, rec_at, with_filed, without_slot, IsCatalog};
 ghost use Rattle.lis_catalog.specs.Calls.{Adds, Replaces};
 ghost use Rattle.lis_catalog.specs.Inside.{name_in, catalog_of, IsHeld, FoundAt, PlaceFor};
@@ -95,7 +95,7 @@ impl Catalog {
 
     /// A catalog without files, with `files` slots.
     pub fn new(alloc: Global, files: u32) -> Result<Catalog, AllocError>
-        requires { files ≤ MAX_FILES }
+        requires { files ≤ V3_MAX_FILES }
         ensures { IfOk result (λ c. c ≡ record { files = files; entries = [] }) }
     {
         Ok(Catalog {

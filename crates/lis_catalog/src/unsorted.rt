@@ -1,5 +1,5 @@
 ghost use Rattle.std.specs.Prelude.{◌≡◌, ℕ, ◌<◌, ◌≤◌, None, Some, is_some, length, replicate, slice_index_or, slice_set, vec_capacity, IsTrue, IfOk, IfErr};
-ghost use Rattle.lis_limits.specs.declared.TheConstants.{MAX_FILES};
+ghost use Rattle.lis_limits.specs.declared.TheConstants.{V3_MAX_FILES};
 ghost use Rattle.lis_graph.specs.Again.{IsFirstAgain};
 ghost use Rattle.lis_graph.specs.Inside.{IsUnsorted, named_cmp, RisesByName, IsLeastRepeat};
 ghost use Rattle.lis_words.specs.Words.{is_file_name, word_cmp};
@@ -28,12 +28,12 @@ impl Model for Unsorted {
 
     ghost Value = { List (Option FileRecord) };
 
-    ghost use Rattle.lis_limits.specs.declared.TheConstants.{MAX_FILES};
+    ghost use Rattle.lis_limits.specs.declared.TheConstants.{V3_MAX_FILES};
     ghost use Rattle.lis_graph.specs.Inside.{IsUnsorted};
 
     ghost view = { λ u. u.records.items };
 
-    ghost invariant = { λ u. IsUnsorted MAX_FILES u.records.items u.order.items (vec_capacity u.order) };
+    ghost invariant = { λ u. IsUnsorted V3_MAX_FILES u.records.items u.order.items (vec_capacity u.order) };
 }
 
 // Compares two slots by their names, and by themselves if they have the same name.
@@ -47,8 +47,8 @@ fn compare(records: &[Option<FileRec>], slot: u32, other: u32) -> Ordering
 
 // Sorts slots by their names, and slots of the same name by themselves.
 fn put_in_order(records: &[Option<FileRec>], order: &mut Vec<u32>)
-    requires { IsUnsorted MAX_FILES records.now order.old.items (vec_capacity order.old) }
-    ensures held { IsUnsorted MAX_FILES records.now order.new.items (vec_capacity order.new) }
+    requires { IsUnsorted V3_MAX_FILES records.now order.old.items (vec_capacity order.old) }
+    ensures held { IsUnsorted V3_MAX_FILES records.now order.new.items (vec_capacity order.new) }
     ensures ordered { RisesByName word_cmp (name_in records.now) order.new.items }
 {
     order.sort_unstable_by(|slot, other| compare(records, *slot, *other));
@@ -75,7 +75,7 @@ fn first_again(records: &[Option<FileRec>], order: &[u32]) -> Option<u32>
 impl Unsorted {
     /// Slots below `files`, without records.
     pub fn new(alloc: Global, files: u32) -> Result<Unsorted, AllocError>
-        requires { files ≤ MAX_FILES }
+        requires { files ≤ V3_MAX_FILES }
         ensures { IfOk result (λ unsorted. unsorted ≡ replicate files None) }
     {
         Ok(Unsorted {

@@ -1,6 +1,6 @@
 -- How a dictionary is held. No public clause cites this module.
 use Rattle.std.specs.Prelude.{◌≡◌, ℕ, ◌≤◌, Option, None, is_some, List, [], length, map, count_by, slice_index_or, unwrap_or}
-use Rattle.lis_limits.specs.declared.TheConstants.{MAX_PROPS}
+use Rattle.lis_limits.specs.declared.TheConstants.{V3_MAX_PROPS}
 use Rattle.lis_dict.specs.Dict.{Dict, IsDict, word_of}
 
 -- by number, the word that has it
@@ -23,7 +23,7 @@ dict_of props holders order = record { props = props; entries = map (entry_in ho
 pub record IsSoundDict (props : ℕ) (holders : Holders) (order : List ℕ) (room : ℕ) : Type 0 where
   -- each number stands once in the order, and the words rise
   pub dict : IsDict (dict_of props holders order)
-  pub limit : props ≤ MAX_PROPS
+  pub limit : props ≤ V3_MAX_PROPS
   pub table : length holders ≡ props
   -- just the numbers in the order have a word
   pub told : (n : ℕ) → slice_index_or holders n None ≡ word_of (dict_of props holders order) n

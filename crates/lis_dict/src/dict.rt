@@ -2,7 +2,7 @@ ghost use Rattle.std.specs.Prelude.{◌≡◌, ℕ, ◌<◌, ◌≤◌, List, []
 ghost use Rattle.std.specs.List.{HoldsAt};
 ghost use Rattle.std.specs.List.Sorted.{IsSearchInRange, IsPartitionPoint};
 ghost use Rattle.std.specs.declared.cmp.Ordering.TheVariants.{Less, Greater};
-ghost use Rattle.lis_limits.specs.declared.TheConstants.{MAX_PROPS};
+ghost use Rattle.lis_limits.specs.declared.TheConstants.{V3_MAX_PROPS};
 ghost use Rattle.lis_words.specs.Words.{is_property, word_cmp, test_of};
 ghost use Rattle.lis_dict.specs.Dict.{number_of, word_of, place_of, with_entry, without_word, IsDict, Adds};
 ghost use Rattle.lis_dict.specs.Inside.{word_in, dict_of, IsSoundDict};
@@ -71,7 +71,7 @@ impl Dict {
 
     /// No words yet, with room for `props` words.
     pub fn new(alloc: Global, props: u32) -> Result<Dict, AllocError>
-        requires { props ≤ MAX_PROPS }
+        requires { props ≤ V3_MAX_PROPS }
         ensures { IfOk result (λ d. d ≡ record { props = props; entries = [] }) }
     {
         Ok(Dict {
@@ -199,7 +199,7 @@ impl Dict {
         ensures found { IfOk result (HoldsAt (λ e. e.0 ≡ bytes.now) self.now.entries) }
         ensures absent { IfErr result (IsPartitionPoint (λ e. word_cmp e.0 bytes.now ≡ Less) (λ e. word_cmp e.0 bytes.now ≡ Greater) self.now.entries) }
         ensures kept { IsDict self.now }
-        ensures few { length self.now.entries ≤ MAX_PROPS }
+        ensures few { length self.now.entries ≤ V3_MAX_PROPS }
     {
         let holders = self.holders.as_slice();
         self.order

@@ -1,5 +1,5 @@
 ghost use Rattle.std.specs.Prelude.{◌≡◌, ℕ, ◌<◌, ◌≤◌, None, Some, is_some, length, replicate, slice_index_or, slice_set, vec_capacity, List, IsTrue, IfOk, IfErr};
-ghost use Rattle.lis_limits.specs.declared.TheConstants.{MAX_PROPS};
+ghost use Rattle.lis_limits.specs.declared.TheConstants.{V3_MAX_PROPS};
 ghost use Rattle.lis_graph.specs.Again.{IsFirstAgain};
 ghost use Rattle.lis_graph.specs.Inside.{IsUnsorted, named_cmp, RisesByName, IsLeastRepeat};
 ghost use Rattle.lis_words.specs.Words.{is_property, word_cmp};
@@ -26,12 +26,12 @@ impl Model for Unsorted {
 
     ghost Value = { List (Option (List ℕ)) };
 
-    ghost use Rattle.lis_limits.specs.declared.TheConstants.{MAX_PROPS};
+    ghost use Rattle.lis_limits.specs.declared.TheConstants.{V3_MAX_PROPS};
     ghost use Rattle.lis_graph.specs.Inside.{IsUnsorted};
 
     ghost view = { λ u. u.holders.items };
 
-    ghost invariant = { λ u. IsUnsorted MAX_PROPS u.holders.items u.order.items (vec_capacity u.order) };
+    ghost invariant = { λ u. IsUnsorted V3_MAX_PROPS u.holders.items u.order.items (vec_capacity u.order) };
 }
 
 // Compares two numbers by their words, and by themselves if they have the same word.
@@ -45,8 +45,8 @@ fn compare(holders: &[Option<Word>], number: u32, other: u32) -> Ordering
 
 // Sorts numbers by their words, and numbers of the same word by themselves.
 fn put_in_order(holders: &[Option<Word>], order: &mut Vec<u32>)
-    requires { IsUnsorted MAX_PROPS holders.now order.old.items (vec_capacity order.old) }
-    ensures held { IsUnsorted MAX_PROPS holders.now order.new.items (vec_capacity order.new) }
+    requires { IsUnsorted V3_MAX_PROPS holders.now order.old.items (vec_capacity order.old) }
+    ensures held { IsUnsorted V3_MAX_PROPS holders.now order.new.items (vec_capacity order.new) }
     ensures ordered { RisesByName word_cmp (word_in holders.now) order.new.items }
 {
     order.sort_unstable_by(|number, other| compare(holders, *number, *other));
@@ -73,7 +73,7 @@ fn first_again(holders: &[Option<Word>], order: &[u32]) -> Option<u32>
 impl Unsorted {
     /// Numbers below `props`, without words.
     pub fn new(alloc: Global, props: u32) -> Result<Unsorted, AllocError>
-        requires { props ≤ MAX_PROPS }
+        requires { props ≤ V3_MAX_PROPS }
         ensures { IfOk result (λ words. words ≡ replicate props None) }
     {
         Ok(Unsorted {

@@ -1,7 +1,7 @@
 -- What a contract sees of an `Ext`.
 use Rattle.std.specs.Prelude.{ℕ, ◌<◌, ◌≤◌, Bool, ◌&&◌, ◌||◌, All, List, [], length, replicate, slice_index_or, count_by}
 use Rattle.std.specs.List.Sorted.{IsStrictlyIncreasing}
-use Rattle.lis_limits.specs.declared.TheConstants.{MAX_FILES, MAX_PROPS}
+use Rattle.lis_limits.specs.declared.TheConstants.{V3_MAX_FILES, V3_MAX_PROPS}
 use Rattle.lis_ext.specs.Numbers.{has_number, numbers_where}
 
 -- numbers below `props`, the set of each file as a rising list, the numbers that are marked as changed, in rising order, and a count of
@@ -37,7 +37,7 @@ with_marks e test = numbers_where e.props (λ p. has_number e.marks p || test p)
 
 -- what each `Ext` keeps
 pub record IsKept (e : Ext) : Type 0 where
-  pub few_props : e.props ≤ MAX_PROPS
-  pub few_files : length e.sets ≤ MAX_FILES
+  pub few_props : e.props ≤ V3_MAX_PROPS
+  pub few_files : length e.sets ≤ V3_MAX_FILES
   pub rise : (i : ℕ) → i < length e.sets → IsStrictlyIncreasing (set_of e i)
   pub in_range : (i : ℕ) → i < length e.sets → All (λ p. p < e.props) (set_of e i)

@@ -1,7 +1,7 @@
 -- The fields of an `Ext`, and what the functions over them do. No public clause cites this module.
 use Rattle.std.specs.Prelude.{◌≡◌, ℕ, ◌+◌, ◌<◌, ◌≤◌, Bool, not, ◌&&◌, ◌||◌, ◌==◌, if◌then◌else◌, All, List, [], length, slice_index, slice_index_or}
 use Rattle.std.specs.List.Sorted.{IsStrictlyIncreasing}
-use Rattle.lis_limits.specs.declared.TheConstants.{MAX_FILES, MAX_PROPS}
+use Rattle.lis_limits.specs.declared.TheConstants.{V3_MAX_FILES, V3_MAX_PROPS}
 use Rattle.lis_bits.specs.Rows.{Rows, HasShape, get}
 use Rattle.lis_ext.specs.Numbers.{has_number, numbers_where}
 use Rattle.lis_ext.specs.Ext.{Ext, count_of}
@@ -37,8 +37,8 @@ AreInStep lists rows props files = (p i : ℕ) → p < props → i < files → g
 
 -- what the fields keep
 pub record IsSoundExt (lists : List (List ℕ)) (counts : List ℕ) (rows marks : Rows) (props files : ℕ) : Type 0 where
-  pub few_props : props ≤ MAX_PROPS
-  pub few_files : files ≤ MAX_FILES
+  pub few_props : props ≤ V3_MAX_PROPS
+  pub few_files : files ≤ V3_MAX_FILES
   pub long : length lists ≡ files
   pub rows_shape : HasShape rows props files
   pub marks_shape : HasShape marks 1 props

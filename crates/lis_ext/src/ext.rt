@@ -8,7 +8,7 @@ ghost use Rattle.lis_ext.specs.Numbers.{differs, has_number, numbers_where};
 use crate::lists::Lists;
 use crate::tables;
 use lis_bits::{Rows, and_row, copy_row, within};
-use lis_limits::{MAX_DESCRIPTION, MAX_FILES, MAX_PROPS};
+use lis_limits::{MAX_DESCRIPTION, V3_MAX_FILES, V3_MAX_PROPS};
 use std::alloc::{AllocError, Global};
 use std::marker::Model;
 
@@ -47,8 +47,8 @@ impl Ext {
     pub fn new(alloc: Global, props: u32, files: u32) -> Result<Ext, AllocError>
         requires whole_words { files % 64 ≡ 0 }
         requires whole_marks { props % 64 ≡ 0 }
-        requires few_props { props ≤ MAX_PROPS }
-        requires few_files { files ≤ MAX_FILES }
+        requires few_props { props ≤ V3_MAX_PROPS }
+        requires few_files { files ≤ V3_MAX_FILES }
         ensures { IfOk result (λ made. made ≡ empty_ext props files) }
     {
         Ok(Ext {

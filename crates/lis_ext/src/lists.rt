@@ -1,6 +1,6 @@
 ghost use Rattle.std.specs.Prelude.{◌≡◌, ℕ, ◌+◌, ◌*◌, ◌<◌, ◌≤◌, ◌⊎◌, [], length, replicate, slice_index, slice_index_or, slice_set, vec_capacity, IfOk};
 
-use lis_limits::{MAX_DESCRIPTION, MAX_FILES};
+use lis_limits::{MAX_DESCRIPTION, V3_MAX_FILES};
 use std::alloc::{AllocError, Global};
 use std::marker::Model;
 
@@ -28,7 +28,7 @@ impl Model for Lists {
 impl Lists {
     /// `lists` lists, all of them empty.
     pub(crate) fn new(alloc: Global, lists: u32) -> Result<Lists, AllocError>
-        requires few { lists ≤ MAX_FILES }
+        requires few { lists ≤ V3_MAX_FILES }
         ensures { IfOk result (λ made. made ≡ replicate lists []) }
     {
         Ok(Lists {

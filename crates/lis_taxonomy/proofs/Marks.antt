@@ -6,7 +6,7 @@ use Rattle.std.proofs.lemmas.Bool.{cases_eq, cases_lt}
 use Rattle.std.proofs.lemmas.List.{get_or_default, length-replicate}
 use Rattle.std.proofs.lemmas.List.Sums.{sum_by-cons, sum_by-set, count_by-le-length}
 use Rattle.std.proofs.Math.ListN.{get_or-eq_default}
-use Rattle.lis_limits.specs.declared.TheConstants.{MAX_PROPS}
+use Rattle.lis_limits.specs.declared.TheConstants.{V3_MAX_PROPS}
 use Rattle.lis_bits.proofs.Laws.{all_false}
 use Rattle.lis_taxonomy.specs.Search.{is_found}
 use Rattle.lis_taxonomy.specs.Inside.{IsSoundSearch}
@@ -19,7 +19,7 @@ none_counted (mark ∷ marks) none =
     let head = ap {B = ℕ} (λ (m : Bool). cond m 1 0) (none 0) in
     omega (arith, sum_by-cons (λ (m : Bool). cond m 1 0) mark marks, head, none_counted marks (λ k. none (suc k)))
 
-pub sound_empty : (n capacity : ℕ) → n ≡ MAX_PROPS → capacity ≡ MAX_PROPS → IsSoundSearch [] (replicate n false) capacity
+pub sound_empty : (n capacity : ℕ) → n ≡ V3_MAX_PROPS → capacity ≡ V3_MAX_PROPS → IsSoundSearch [] (replicate n false) capacity
 sound_empty n capacity all exact = record {
   size = omega (arith, length-replicate n false, all);
   memory = omega (arith, exact);
@@ -84,13 +84,13 @@ module _ (numbers : List ℕ) (marks : List Bool) (capacity : ℕ) (sound : IsSo
   pub place_in_range : (k : ℕ) → k < length numbers → get_or numbers k 0 < length marks
   place_in_range k lt = found_in_range (get_or numbers k 0) (has_at numbers k lt)
 
-  pub numbers_below : All (λ q. q < MAX_PROPS) numbers
-  numbers_below k d lt = subst (λ q. q < MAX_PROPS) (sym (get_or_default numbers k d 0 lt)) (omega (arith, place_in_range k lt, sound.size))
+  pub numbers_below : All (λ q. q < V3_MAX_PROPS) numbers
+  numbers_below k d lt = subst (λ q. q < V3_MAX_PROPS) (sym (get_or_default numbers k d 0 lt)) (omega (arith, place_in_range k lt, sound.size))
 
-  pub few_found : length numbers ≤ MAX_PROPS
+  pub few_found : length numbers ≤ V3_MAX_PROPS
   few_found = omega (arith, sound.once, sound.size, count_by-le-length (λ (mark : Bool). mark) marks)
 
-  pub found_once : (props : ℕ) → props ≤ MAX_PROPS → ((q : ℕ) → is_found numbers q ≡ true → q < props) → length numbers ≡ count_by (is_found numbers) (range_with_len 0 props)
+  pub found_once : (props : ℕ) → props ≤ V3_MAX_PROPS → ((q : ℕ) → is_found numbers q ≡ true → q < props) → length numbers ≡ count_by (is_found numbers) (range_with_len 0 props)
   found_once props few below =
       sym sound.once
       ∙ (counted_from marks 0 (is_found numbers) (λ k lt. let here : 0 + k ≡ k = omega arith in sound.marked k ∙ ap (is_found numbers) (sym here))
@@ -114,7 +114,7 @@ module _ (numbers : List ℕ) (marks : List Bool) (capacity : ℕ) (sound : IsSo
         let nothing = ap {B = ℕ} (λ (mark : Bool). cond mark 1 0) new in
         omega (arith, sum_by-set (λ (mark : Bool). cond mark 1 0) marks number true false below, nothing)
 
-    pub some_room : length numbers + 1 ≤ MAX_PROPS
+    pub some_room : length numbers + 1 ≤ V3_MAX_PROPS
     some_room = omega (arith, counted, sound.once, sound.size, count_by-le-length (λ (mark : Bool). mark) (set marks number true), length-set marks number true)
 
     pub sound_met : (room : ℕ) → capacity ≤ room → IsSoundSearch (numbers ++ number ∷ []) (set marks number true) room

@@ -6,7 +6,7 @@ use Rattle.std.proofs.lemmas.Bool.{cases_eq, cases_lt}
 use Rattle.std.proofs.lemmas.List.{get_or_default}
 use Rattle.std.proofs.lemmas.List.Edits.{length-insert, get_or-insert_below, get_or-insert_at, get_or-insert_above, length-remove, get_or-remove_below, get_or-remove_above}
 use Rattle.lis_graph.proofs.Members.{Among, among_from_contains, contains_from_among, among_append, among_left, among_right}
-use Rattle.lis_limits.specs.declared.TheConstants.{MAX_PROPS}
+use Rattle.lis_limits.specs.declared.TheConstants.{V3_MAX_PROPS}
 use Rattle.lis_taxonomy.specs.Inside.{edge_at, rank, AreInOrder, IsPlace, IsGap}
 
 -- ---- members by their places
@@ -16,7 +16,7 @@ among_place es e m = let c = contains_from_among es e m in (c.0, c.1, get_or_def
 pub place_among : (es : List (ℕ × ℕ)) (e : ℕ × ℕ) (k : ℕ) → k < length es → edge_at es k ≡ e → Among es e
 place_among es e k lt same = among_from_contains es e (k, lt, get_or_default es k e (0, 0) lt ∙ same)
 
-rank_same : (a b : ℕ × ℕ) → a.1 < MAX_PROPS → b.1 < MAX_PROPS → rank a ≡ rank b → a ≡ b
+rank_same : (a b : ℕ × ℕ) → a.1 < V3_MAX_PROPS → b.1 < V3_MAX_PROPS → rank a ≡ rank b → a ≡ b
 rank_same a b a_in b_in same = let left : a.0 ≡ b.0 = omega arith in let right : a.1 ≡ b.1 = omega arith in λ i. (left i, right i)
 
 module _ (es : List (ℕ × ℕ)) (props : ℕ) (order : AreInOrder es props) (p q place : ℕ) (right : q < props) (at : IsPlace es p q place) where
@@ -183,7 +183,7 @@ remove_among xs i lt e (inr m) = subst (λ ys. Among ys e) (sym (put_back xs i l
 abbrev pub is_before : ℕ → ℕ → ℕ × ℕ → Bool
 is_before p q e = nat_lt e.0 p || (nat_eq e.0 p && nat_lt e.1 q)
 
-module _ (p q : ℕ) (right : q < MAX_PROPS) (e : ℕ × ℕ) (within : e.1 < MAX_PROPS) where
+module _ (p q : ℕ) (right : q < V3_MAX_PROPS) (e : ℕ × ℕ) (within : e.1 < V3_MAX_PROPS) where
   rank_before : is_before p q e ≡ true → rank e < rank (p, q)
   rank_before h = by (nat_lt e.0 p) (nat_eq e.0 p) (nat_lt e.1 q) refl refl refl h
     where
@@ -202,8 +202,8 @@ module _ (p q : ℕ) (right : q < MAX_PROPS) (e : ℕ × ℕ) (within : e.1 < MA
       by false true false ae be ce h = omega (arith, eqb-true e.0 p be, ltb-false e.1 q ce)
       by false false c ae be ce h = let differ : e.0 ≡ p → ⊥ = (λ same. let k = eq-eqb e.0 p same in cc) in omega (arith, ltb-false e.0 p ae)
 
-module _ (es : List (ℕ × ℕ)) (props : ℕ) (order : AreInOrder es props) (p q : ℕ) (right : q < MAX_PROPS) where
-  narrow : (k : ℕ) → k < length es → (edge_at es k).1 < MAX_PROPS
+module _ (es : List (ℕ × ℕ)) (props : ℕ) (order : AreInOrder es props) (p q : ℕ) (right : q < V3_MAX_PROPS) where
+  narrow : (k : ℕ) → k < length es → (edge_at es k).1 < V3_MAX_PROPS
   narrow k lt = omega (arith, order.right k lt, order.few)
 
   pub parted : IsPartitionedBy (is_before p q) es

@@ -15,7 +15,7 @@ use Rattle.lis_graph.proofs.Members.{Among, among_from_any, any_from_among, cont
 use Rattle.lis_graph.proofs.Pairs.{pairs_total, pairs_exact}
 use Rattle.lis_graph.proofs.Graph as graph
 use Rattle.lis_taxonomy.specs.Taxonomy.{pair_cmp, no_links, has_edge, leads_to, Entails, IsAcyclic, with_edge, without_edge}
-use Rattle.lis_limits.specs.declared.TheConstants.{MAX_PROPS}
+use Rattle.lis_limits.specs.declared.TheConstants.{V3_MAX_PROPS}
 use Rattle.lis_taxonomy.specs.Search.{is_found}
 use Rattle.lis_taxonomy.specs.Inside.{edge_at, rank, AreInOrder, AreEntered, IsPlace, IsGap, seen, IsSoundTaxonomy, IsSearched}
 use Rattle.lis_taxonomy.proofs.Laws.{nat_decides, no_links_ordered}
@@ -139,7 +139,7 @@ module _ (es : List (ℕ × ℕ)) (props : ℕ) (order : AreInOrder es props) (p
       back : Among es (p, q) → leads_to part q ≡ true
       back m =
           let k = among_place es (p, q) m in
-          let few : q < MAX_PROPS = subst (λ (e : ℕ × ℕ). e.1 < MAX_PROPS) k.2 (omega (arith, order.right k.0 k.1, order.few)) in
+          let few : q < V3_MAX_PROPS = subst (λ (e : ℕ × ℕ). e.1 < V3_MAX_PROPS) k.2 (omega (arith, order.right k.0 k.1, order.few)) in
           let rank_is = ap rank k.2 in
           let low : start ≤ k.0 = by (cases_lt k.0 start) (λ less. omega (arith, first.before k.0 less, rank_is)) in
           let high : k.0 < end = beyond (cases_lt k.0 end) (λ le. omega (arith, last.after k.0 le k.1, rank_is, few)) in
@@ -240,7 +240,7 @@ module _ (small big : List (ℕ × ℕ)) (props p q : ℕ)
     seen_less = ap (λ edges. record { props = props; edges = edges }) set_less
 
 -- ---- what the fields keep
-pub sound_new : (props capacity n : ℕ) → n ≡ MAX_PROPS → props ≤ MAX_PROPS → capacity ≡ 3 * props → IsSoundTaxonomy [] (replicate n false) props capacity
+pub sound_new : (props capacity n : ℕ) → n ≡ V3_MAX_PROPS → props ≤ V3_MAX_PROPS → capacity ≡ 3 * props → IsSoundTaxonomy [] (replicate n false) props capacity
 sound_new props capacity n all few exact = record {
   order = record { few = few; left = λ k lt. absurd (omega arith); right = λ k lt. absurd (omega arith); rising = λ i j less lt. absurd (omega arith) };
   marked = record { size = length-replicate n false ∙ all; each = λ k lt. absurd (omega arith) };

@@ -1,7 +1,7 @@
 -- The lists of a taxonomy and of a search, and what the functions over them do. No public clause cites this module.
 use Rattle.std.specs.Prelude.{◌≡◌, ◌≢◌, ℕ, ◌+◌, ◌*◌, ◌<◌, ◌≤◌, ◌↔◌, ◌⊎◌, Bool, false, IsTrue, List, length, count_by, slice_index, slice_index_or}
 use Rattle.std.specs.FinSet as set
-use Rattle.lis_limits.specs.declared.TheConstants.{MAX_PROPS}
+use Rattle.lis_limits.specs.declared.TheConstants.{V3_MAX_PROPS}
 use Rattle.lis_bits.specs.Rows.{Rows, get}
 use Rattle.lis_graph.specs.Graph as graph
 use Rattle.lis_taxonomy.specs.Search.{is_found}
@@ -13,11 +13,11 @@ edge_at edges k = slice_index_or edges k (0, 0)
 
 -- the rank of an edge in the order: by its left side, and then by its right side
 abbrev pub rank : ℕ × ℕ → ℕ
-rank e = e.0 * MAX_PROPS + e.1
+rank e = e.0 * V3_MAX_PROPS + e.1
 
 -- edges between numbers below `props`, each once, in the order of their ranks
 pub record AreInOrder (edges : List (ℕ × ℕ)) (props : ℕ) : Type 0 where
-  pub few : props ≤ MAX_PROPS
+  pub few : props ≤ V3_MAX_PROPS
   pub left : (k : ℕ) → k < length edges → (edge_at edges k).0 < props
   pub right : (k : ℕ) → k < length edges → (edge_at edges k).1 < props
   pub rising : (i j : ℕ) → i < j → j < length edges → rank (edge_at edges i) < rank (edge_at edges j)
@@ -39,7 +39,7 @@ seen edges props = record { props = props; edges = set.from_list edges }
 
 -- each number to which an edge leads is marked
 pub record AreEntered (edges : List (ℕ × ℕ)) (entered : List Bool) : Type 0 where
-  pub size : length entered ≡ MAX_PROPS
+  pub size : length entered ≡ V3_MAX_PROPS
   pub each : (k : ℕ) → k < length edges → IsTrue (slice_index_or entered (edge_at edges k).1 false)
 
 -- what the fields of a taxonomy keep: the edges have no cycle, and there is memory for all for which there is room
@@ -52,8 +52,8 @@ pub record IsSoundTaxonomy (edges : List (ℕ × ℕ)) (entered : List Bool) (pr
 
 -- what the fields of a search keep: just the found numbers are marked, and each is found once
 pub record IsSoundSearch (numbers : List ℕ) (marks : List Bool) (capacity : ℕ) : Type 0 where
-  pub size : length marks ≡ MAX_PROPS
-  pub memory : MAX_PROPS ≤ capacity
+  pub size : length marks ≡ V3_MAX_PROPS
+  pub memory : V3_MAX_PROPS ≤ capacity
   pub marked : (q : ℕ) → slice_index_or marks q false ≡ is_found numbers q
   pub once : count_by (λ mark. mark) marks ≡ length numbers
 

@@ -1,6 +1,6 @@
 -- The value of a `Search` in contracts: the numbers that it found.
 use Rattle.std.specs.Prelude.{ℕ, ◌<◌, ◌≤◌, Bool, nat_eq, List, ◌∷◌, [], ◌++◌, if◌then◌else◌, IsTrue}
-use Rattle.lis_limits.specs.declared.TheConstants.{MAX_PROPS}
+use Rattle.lis_limits.specs.declared.TheConstants.{V3_MAX_PROPS}
 use Rattle.lis_graph.specs.Graph.{has}
 
 -- the number was found
@@ -13,5 +13,5 @@ met found q = if is_found found q then found else found ++ q ∷ []
 
 -- the found numbers are below `props`
 pub record AreBelow (props : ℕ) (found : List ℕ) : Type 0 where
-  pub few : props ≤ MAX_PROPS
+  pub few : props ≤ V3_MAX_PROPS
   pub below : (n : ℕ) → IsTrue (is_found found n) → n < props

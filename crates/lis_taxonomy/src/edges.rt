@@ -1,12 +1,12 @@
 ghost use Rattle.std.specs.Prelude.{◌≡◌, ℕ, ◌<◌, length, IfOk, IfErr};
 ghost use Rattle.lis_taxonomy.specs.Inside.{AreInOrder, IsPlace, IsGap, edge_at};
 
-use lis_limits::MAX_PROPS;
+use lis_limits::V3_MAX_PROPS;
 
 // How many of these edges come before the edge from p to q.
 pub(crate) fn place_of(edges: &[(u32, u32)], p: u32, q: u32) -> usize
     requires order { (props : ℕ) × AreInOrder edges.now props }
-    requires q { q < MAX_PROPS }
+    requires q { q < V3_MAX_PROPS }
     ensures { IsPlace edges.now p q result }
 {
     edges.partition_point(|edge| edge.0 < p || edge.0 == p && edge.1 < q)

@@ -7,7 +7,7 @@ ghost use Rattle.lis_taxonomy.specs.Inside.{AreInOrder, AreEntered, MeetsRights,
 
 use crate::edges::place_of;
 use lis_bits::{Flags, Rows};
-use lis_limits::MAX_PROPS;
+use lis_limits::V3_MAX_PROPS;
 use std::alloc::{AllocError, Global};
 use std::marker::Model;
 
@@ -50,14 +50,14 @@ impl Search {
         ensures { IfOk result (λ made. made ≡ []) }
     {
         Ok(Search {
-            numbers: Vec::with_capacity(alloc, MAX_PROPS as usize)?,
-            marks: Flags::new(alloc, MAX_PROPS)?,
+            numbers: Vec::with_capacity(alloc, V3_MAX_PROPS as usize)?,
+            marks: Flags::new(alloc, V3_MAX_PROPS)?,
         })
     }
 
     /// Whether the number was found.
     pub fn has(&self, number: u32) -> bool
-        requires { number < MAX_PROPS }
+        requires { number < V3_MAX_PROPS }
         ensures { result ≡ is_found self.now number }
     {
         self.marks.get(number)
@@ -66,7 +66,7 @@ impl Search {
     /// How many numbers were found.
     pub fn count(&self) -> u32
         ensures value { result ≡ length self.now }
-        ensures once { (props : ℕ) → props ≤ MAX_PROPS → ((q : ℕ) → IsTrue (is_found self.now q) → q < props)
+        ensures once { (props : ℕ) → props ≤ V3_MAX_PROPS → ((q : ℕ) → IsTrue (is_found self.now q) → q < props)
             → result ≡ count_by (is_found self.now) (range_with_len 0 props) }
     {
         self.numbers.len() as u32
@@ -75,7 +75,7 @@ impl Search {
     /// The least number that was found and is not below `start`.
     pub fn next(&self, start: u32) -> Option<u32>
         ensures found { IfSome result (λ q. IsTrue (is_found self.now q)) }
-        ensures below { IfSome result (λ q. q < MAX_PROPS) }
+        ensures below { IfSome result (λ q. q < V3_MAX_PROPS) }
         ensures from_start { IfSome result (λ q. start ≤ q) }
         ensures least { IfSome result (λ q. (k : ℕ) → start ≤ k → k < q → is_found self.now k ≡ false) }
         ensures none { IfNone result ((k : ℕ) → start ≤ k → is_found self.now k ≡ false) }
@@ -86,9 +86,9 @@ impl Search {
     // The numbers, in the order in which the search met them.
     pub(crate) fn numbers(&self) -> &[u32]
         ensures value { result.now ≡ self.now }
-        ensures below { All (λ q. q < MAX_PROPS) result.now }
-        ensures few { length result.now ≤ MAX_PROPS }
-        ensures once { (props : ℕ) → props ≤ MAX_PROPS → ((q : ℕ) → IsTrue (is_found self.now q) → q < props)
+        ensures below { All (λ q. q < V3_MAX_PROPS) result.now }
+        ensures few { length result.now ≤ V3_MAX_PROPS }
+        ensures once { (props : ℕ) → props ≤ V3_MAX_PROPS → ((q : ℕ) → IsTrue (is_found self.now q) → q < props)
             → length result.now ≡ count_by (is_found self.now) (range_with_len 0 props) }
     {
         self.numbers.as_slice()
@@ -104,7 +104,7 @@ impl Search {
 
     /// Adds a number, unless it was found before.
     pub fn meet(&mut self, number: u32)
-        requires { number < MAX_PROPS }
+        requires { number < V3_MAX_PROPS }
         ensures { self.new ≡ met self.old number }
     {
         if self.marks.get(number) {
@@ -119,7 +119,7 @@ impl Search {
     // Adds the numbers to which edges lead from one.
     pub(crate) fn meet_rights(&mut self, edges: &[(u32, u32)], number: u32)
         requires order { (props : ℕ) × AreInOrder edges.now props }
-        requires number { number < MAX_PROPS }
+        requires number { number < V3_MAX_PROPS }
         ensures { MeetsRights edges.now self.old self.new number }
     {
         let mut place = place_of(edges, number, 0);
@@ -133,7 +133,7 @@ impl Search {
     pub(crate) fn close(&mut self, edges: &[(u32, u32)])
         requires { (props : ℕ) × AreInOrder edges.now props }
         ensures found { IsSearched edges.now self.old self.new }
-        ensures once { (props : ℕ) → props ≤ MAX_PROPS → ((q : ℕ) → IsTrue (is_found self.new q) → q < props)
+        ensures once { (props : ℕ) → props ≤ V3_MAX_PROPS → ((q : ℕ) → IsTrue (is_found self.new q) → q < props)
             → length self.new ≡ count_by (is_found self.new) (range_with_len 0 props) }
     {
         let mut done = 0;
@@ -147,7 +147,7 @@ impl Search {
     // Finds all numbers to which chains of edges lead from p.
     pub(crate) fn run(&mut self, edges: &[(u32, u32)], p: u32)
         requires order { (props : ℕ) × AreInOrder edges.now props }
-        requires p { p < MAX_PROPS }
+        requires p { p < V3_MAX_PROPS }
         ensures { IsSearched edges.now (p ∷ []) self.new }
     {
         self.clear();
@@ -159,8 +159,8 @@ impl Search {
     pub(crate) fn reaches(&mut self, edges: &[(u32, u32)], entered: &Flags, p: u32, q: u32) -> bool
         requires order { (props : ℕ) × AreInOrder edges.now props }
         requires entered { AreEntered edges.now entered.now }
-        requires p { p < MAX_PROPS }
-        requires q { q < MAX_PROPS }
+        requires p { p < V3_MAX_PROPS }
+        requires q { q < V3_MAX_PROPS }
         ensures { IsTrue result ↔ Entails no_links edges.now p q }
     {
         if p != q && !entered.get(q) {

@@ -4,7 +4,7 @@ ghost use Rattle.std.specs.List.{range_with_len};
 use crate::edges::{find, place_of};
 use crate::search::Search;
 use lis_bits::{Flags, Rows};
-use lis_limits::MAX_PROPS;
+use lis_limits::V3_MAX_PROPS;
 use std::alloc::{AllocError, Global};
 use std::marker::Model;
 
@@ -55,13 +55,13 @@ impl Taxonomy {
 
     /// A taxonomy of the numbers below `props`, with no edge.
     pub fn new(alloc: Global, props: u32) -> Result<Taxonomy, AllocError>
-        requires { props ≤ MAX_PROPS }
+        requires { props ≤ V3_MAX_PROPS }
         ensures { IfOk result (λ made. made ≡ empty_taxonomy props) }
     {
         Ok(Taxonomy {
             props,
             edges: Vec::with_capacity(alloc, (EDGES_PER_PROP * props) as usize)?,
-            entered: Flags::new(alloc, MAX_PROPS)?,
+            entered: Flags::new(alloc, V3_MAX_PROPS)?,
             search: Search::new(alloc)?,
         })
     }
@@ -71,7 +71,7 @@ impl Taxonomy {
         ensures value { result ≡ self.now.props }
         ensures acyclic { IsAcyclic self.now }
         ensures in_range { (p q : ℕ) → IsTrue (has_edge self.now p q) → (p < self.now.props) × (q < self.now.props) }
-        ensures few { self.now.props ≤ MAX_PROPS }
+        ensures few { self.now.props ≤ V3_MAX_PROPS }
     {
         self.props
     }

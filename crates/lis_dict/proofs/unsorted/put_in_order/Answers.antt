@@ -1,7 +1,7 @@
 use Rattle.std.proofs.Common.{rules, arith}
 use Rattle.std.proofs.lemmas.Fn.{always_returns_same}
 use Rattle.std.specs.Ordering.{is_lt}
-use Rattle.lis_limits.specs.declared.TheConstants.{MAX_PROPS}
+use Rattle.lis_limits.specs.declared.TheConstants.{V3_MAX_PROPS}
 use Rattle.lis_graph.specs.Inside.{named_cmp}
 use Rattle.lis_graph.proofs.Repeats.{ranked, moved}
 use Rattle.lis_words.specs.Words.{word_cmp}
@@ -11,7 +11,7 @@ use Rattle.lis_dict.proofs.unsorted.put_in_order.Goals as goal
 
 pub returns-clause-held : goal.returns-clause-held
 returns-clause-held c =
-    moved MAX_PROPS c.args.holders.now c.args.order.now.items _ c.requires c.sort_unstable_by.new.self.items c.sort_unstable_by.ensures.permutation _ (omega (arith, c.sort_unstable_by.ensures.capacity))
+    moved V3_MAX_PROPS c.args.holders.now c.args.order.now.items _ c.requires c.sort_unstable_by.new.self.items c.sort_unstable_by.ensures.permutation _ (omega (arith, c.sort_unstable_by.ensures.capacity))
 
 pub returns-clause-ordered : goal.returns-clause-ordered
 returns-clause-ordered c =

@@ -1,5 +1,5 @@
 use Rattle.std.proofs.Common.{is_some, refl, sym, ap}
-use Rattle.lis_limits.specs.declared.TheConstants.{MAX_FILES}
+use Rattle.lis_limits.specs.declared.TheConstants.{V3_MAX_FILES}
 use Rattle.lis_graph.proofs.Repeats.{holds}
 use Rattle.lis_catalog.proofs.Sorting.{first_again, told, held}
 use Rattle.lis_catalog.proofs.unsorted.Unsorted.sort.Goals as goal
@@ -8,7 +8,7 @@ pub first_again-requires : goal.first_again-requires
 first_again-requires c =
     let order = c.put_in_order.new.order.items in
     let kept = rw c.deref.ensures.value at c.put_in_order.ensures.held in
-    rw (c.deref-2.ensures.value, c.deref-3.ensures.value) (λ k lt. ap is_some (holds MAX_FILES c.self.inside.records.items order _ kept k lt).1)
+    rw (c.deref-2.ensures.value, c.deref-3.ensures.value) (λ k lt. ap is_some (holds V3_MAX_FILES c.self.inside.records.items order _ kept k lt).1)
 
 pub of_parts-requires : goal.of_parts-requires
 of_parts-requires c =

@@ -1,5 +1,5 @@
 use Rattle.std.proofs.Common.{◌<◌, ℕ, List, ◌∙◌, get_or, length, ap, sym, subst, arith}
-use Rattle.lis_limits.specs.declared.TheConstants.{MAX_PROPS}
+use Rattle.lis_limits.specs.declared.TheConstants.{V3_MAX_PROPS}
 use Rattle.lis_taxonomy.specs.Inside.{MeetsRights}
 use Rattle.lis_taxonomy.proofs.Searches.{searches_start, searches_step, searches_end}
 use Rattle.lis_taxonomy.proofs.search.Search.close.Goals as goal
@@ -15,7 +15,7 @@ meet_rights-requires-clause-number c = c.numbers-in-loop-done.ensures.below c.lo
 
 pub loop-done-smaller : goal.loop-done-smaller
 loop-done-smaller c =
-    let few : c.loop-done.done < MAX_PROPS = omega (arith, c.loop-done-test.true, c.numbers.ensures.few) in
+    let few : c.loop-done.done < V3_MAX_PROPS = omega (arith, c.loop-done-test.true, c.numbers.ensures.few) in
     omega (arith, few)
 
 pub loop-done-preserved : goal.loop-done-preserved
