@@ -1,7 +1,7 @@
 //! The memory that evaluation, listings and routes work in.
 
 ghost use Rattle.std.specs.Prelude.{IsTrue, IfOk};
-ghost use Rattle.lis_model.specs.Ranges.{are_stored};
+ghost use Rattle.lis_model.specs.Ranges.{are_in_range};
 ghost use Rattle.lis_eval.specs.Room.{HasRoom};
 
 use lis_bits::Rows;
@@ -37,7 +37,7 @@ pub struct Scratch {
 impl Scratch {
     /// The memory for tables of these limits.
     pub fn new(alloc: Global, limits: &Limits) -> Result<Scratch, AllocError>
-        requires { IsTrue (are_stored limits.now) }
+        requires { IsTrue (are_in_range limits.now) }
         ensures { IfOk result (λ scratch. HasRoom scratch limits.now) }
     {
         Ok(Scratch {

@@ -4,7 +4,7 @@ use Rattle.std.proofs.lemmas.Bool.{and_parts, and_from, eqb-true}
 use Rattle.std.proofs.lemmas.Bool.Decides.{nat_tests}
 use Rattle.std.proofs.lemmas.List.{drop_more}
 use Rattle.lis_model.specs.declared.limits.Limits.{Limits}
-use Rattle.lis_model.specs.Ranges.{is_files_limit, is_props_limit, is_blocks_limit, is_version, are_in_range, are_stored}
+use Rattle.lis_model.specs.Ranges.{is_files_limit, is_props_limit, is_blocks_limit, is_version, are_in_range}
 use Rattle.lis_model.proofs.Stored.{stored_parts, stored_range, within_most}
 use Rattle.lis_fields.specs.Layouts.{zeros, super_start, super_numbers, gate_version, is_gate, version_gate, super_with, super_bytes, SpellsSuper}
 use Rattle.lis_fields.proofs.Widths.{joined, same_number, length_zeros}
@@ -159,7 +159,7 @@ super_torn limits old new one is len front behind = by (gate == 2) (subst (λ xs
     by false spells = inl (subst (λ l. SpellsSuper l new) (ap (λ version. with_version version limits) (sym one)) spells)
 
 -- limits of version 1 or 2 are so in version 2
-pub upgraded_stored : (limits : Limits) → IsTrue (are_stored limits) → IsTrue (are_stored (with_version 2 limits))
+pub upgraded_stored : (limits : Limits) → IsTrue (are_in_range limits) → IsTrue (are_in_range (with_version 2 limits))
 upgraded_stored limits h =
     let parts = stored_parts limits h in
     and_from (are_in_range (with_version 2 limits)) (nat_le 2 2)

@@ -1,6 +1,6 @@
 -- Blocks that are taken for a content, or freed.
 use Rattle.std.proofs.Common.{MatchResult, OnOk, OnErr, ap₂, arith, nat_le, min}
-use Rattle.lis_kept.proofs.Common.{rules, ◌≡◌, refl, sym, ap, ◌∙◌, subst, ℕ, zero, suc, ◌≤◌, nat_lt, not, Bool, true, false, List, [], ◌∷◌, length, map, drop, Result, Ok, Err, list_all, and_parts, ltb-true, lt-ltb, Held, are_distinct, slot_count, FileRecord, Taxonomy, Among, marked, length-marked, data_start, all_among, and_from, all_from, ◌==◌, ◌&&◌, ◌||◌, ◌/◌, ◌*◌, Limits, cond, ◌+◌, ◌⊎◌, inl, inr, IsTrue, are_stored}
+use Rattle.lis_kept.proofs.Common.{rules, ◌≡◌, refl, sym, ap, ◌∙◌, subst, ℕ, zero, suc, ◌≤◌, nat_lt, not, Bool, true, false, List, [], ◌∷◌, length, map, drop, Result, Ok, Err, list_all, and_parts, ltb-true, lt-ltb, Held, are_distinct, slot_count, FileRecord, Taxonomy, Among, marked, length-marked, data_start, all_among, and_from, all_from, ◌==◌, ◌&&◌, ◌||◌, ◌/◌, ◌*◌, Limits, cond, ◌+◌, ◌⊎◌, inl, inr, IsTrue, are_in_range}
 use Rattle.lis_model.specs.Ranges.{most_blocks}
 use Rattle.lis_model.proofs.Stored.{stored_parts}
 use Rattle.std.proofs.lemmas.Bool.{cond-true, eq-eqb, ltb-false, leb-false, and_from}
@@ -144,7 +144,7 @@ few_taken size few = by (nat_le n 16)
     by false = omega (arith, few)
 
 -- each block has a number of the version
-pub few_numbers : (limits : Limits) → IsTrue (are_stored limits) → limits.blocks ≤ most_blocks limits.version
+pub few_numbers : (limits : Limits) → IsTrue (are_in_range limits) → limits.blocks ≤ most_blocks limits.version
 few_numbers limits range = of_version (stored_parts limits range).version
   where
     of_version : (limits.version ≡ 1) ⊎ (limits.version ≡ 2) → limits.blocks ≤ most_blocks limits.version

@@ -24,7 +24,7 @@ pub use Rattle.lis_laws.proofs.Locals.{same_tests}
 pub use Rattle.lis_laws.proofs.Members.{among_from_has_word, has_word_from_among, pair_exact, pair_order, same_word_decides, same_words, word_order}
 pub use Rattle.lis_model.specs.Changes.{same_pair, with_axiom}
 pub use Rattle.lis_model.specs.Image.{bitmap_start, data_start}
-pub use Rattle.lis_model.specs.Ranges.{are_stored}
+pub use Rattle.lis_model.specs.Ranges.{are_in_range}
 pub use Rattle.lis_model.specs.Sets.{with_word, are_distinct}
 pub use Rattle.lis_model.specs.State.{File, description, is_declarable, up}
 pub use Rattle.lis_model.specs.Tests.{are_weaker}

@@ -1,5 +1,5 @@
 -- The bytes and the blocks of a file, and what stays when other blocks change.
-use Rattle.lis_kept.proofs.Common.{rules, ◌≡◌, ℕ, ◌+◌, ◌≤◌, true, List, length, eqb-true, Among, among_from_any, among_right, slot_count, Dict, FileRecord, slot_blocks, Limits, data_start, IsTrue, ◌⊎◌, ◌*◌, ◌/◌, ◌==◌, Bool, false, cond, refl, sym, subst, ◌∙◌, inl, inr, are_stored}
+use Rattle.lis_kept.proofs.Common.{rules, ◌≡◌, ℕ, ◌+◌, ◌≤◌, true, List, length, eqb-true, Among, among_from_any, among_right, slot_count, Dict, FileRecord, slot_blocks, Limits, data_start, IsTrue, ◌⊎◌, ◌*◌, ◌/◌, ◌==◌, Bool, false, cond, refl, sym, subst, ◌∙◌, inl, inr, are_in_range}
 use Rattle.std.proofs.lemmas.Bool.{leb-true, leb-false, ltb-true, ltb-false}
 use Rattle.lis_content.proofs.Indexes.{large_blocks, small_blocks, small_size, small_slot}
 use Rattle.lis_content.proofs.Files.{AreSame, same_file as same_in_content}
@@ -14,7 +14,7 @@ use Rattle.lis_content.specs.Large.{is_large}
 
 -- ---- how many numbers a slot has
 -- as many as the size requires
-pub slot_blocks_counted : (limits : Limits) (size : ℕ) → IsTrue (are_stored limits) → size ≤ file_limit limits → slot_blocks limits.version size ≡ slot_count size
+pub slot_blocks_counted : (limits : Limits) (size : ℕ) → IsTrue (are_in_range limits) → size ≤ file_limit limits → slot_blocks limits.version size ≡ slot_count size
 slot_blocks_counted limits size range few = of_version (stored_parts limits range).version
   where
     n : ℕ
@@ -39,7 +39,7 @@ slot_blocks_counted limits size range few = of_version (stored_parts limits rang
     of_version (inr two) =
         subst (λ v. slot_blocks v size ≡ slot_count size) (sym two) (second (nat_le n 16) (nat_lt 16 n) refl refl (subst within two few))
 
-pub slot_counted : (limits : Limits) (dict : Dict) (blocks : ℕ) (rec : FileRecord) → IsTrue (are_stored limits) → is_sound_record limits dict blocks rec ≡ true
+pub slot_counted : (limits : Limits) (dict : Dict) (blocks : ℕ) (rec : FileRecord) → IsTrue (are_in_range limits) → is_sound_record limits dict blocks rec ≡ true
     → length rec.blocks ≡ slot_count rec.size
 slot_counted limits dict blocks rec range sound =
     let form = record_in_form limits dict blocks rec sound in

@@ -3,22 +3,22 @@ use Rattle.std.proofs.Common.{◌≡◌, ◌⊎◌, ◌+◌, ◌/◌, ◌==◌, 
 use Rattle.lis_journal.specs.Record.{homes_start}
 use Rattle.lis_journal.specs.Journal.{Shape}
 use Rattle.lis_model.specs.declared.limits.Limits.{Limits}
-use Rattle.lis_model.specs.Ranges.{are_stored}
+use Rattle.lis_model.specs.Ranges.{are_in_range}
 use Rattle.lis_model.proofs.Stored.{stored_parts}
 use Rattle.lis_kept.specs.Image.{most_staged, most_placed}
 
-not_third : (limits : Limits) → IsTrue (are_stored limits) → (limits.version == 3) ≡ false
+not_third : (limits : Limits) → IsTrue (are_in_range limits) → (limits.version == 3) ≡ false
 not_third limits h = by (stored_parts limits h).version
   where
     by : (limits.version ≡ 1) ⊎ (limits.version ≡ 2) → (limits.version == 3) ≡ false
     by (inl one) = ap (λ v. v == 3) one
     by (inr two) = ap (λ v. v == 3) two
 
-pub stored_staged : (limits : Limits) → IsTrue (are_stored limits) → most_staged limits ≡ 575
+pub stored_staged : (limits : Limits) → IsTrue (are_in_range limits) → most_staged limits ≡ 575
 unfolding most_staged
 stored_staged limits h = ap (λ third. cond third (limits.files / 8 + 893) 575) (not_third limits h)
 
-pub stored_placed : (limits : Limits) → IsTrue (are_stored limits) → most_placed limits ≡ 257
+pub stored_placed : (limits : Limits) → IsTrue (are_in_range limits) → most_placed limits ≡ 257
 unfolding most_placed
 stored_placed limits h = ap (λ third. cond third 16400 257) (not_third limits h)
 

@@ -1,6 +1,6 @@
 -- Marks of the blocks that a change touches.
 use Rattle.std.proofs.Common.{arith}
-use Rattle.lis_kept.proofs.Common.{rules, ◌≡◌, ◌⊎◌, ℕ, ◌+◌, ◌<◌, ◌≤◌, Bool, true, false, cond, nat_lt, IsTrue, slice_get, Some, List, [], ◌∷◌, ◌++◌, length, set, map, take, count_by, refl, sym, ap, ◌∙◌, subst, inl, inr, length-set, get_or-set_same, get_or-set_other, zero, suc, list_all, Contains, cases_eq, ltb-true, take_more, Contains-get_or, slice_get_within, get_or_from_slice_get, Among, among_from_contains, Limits, are_stored, data_start, all_among, sum_by-cons, length-map, among_map, Ext, has, among_where, marked, common_steps, both_ways, false_from_ne_true, map_among}
+use Rattle.lis_kept.proofs.Common.{rules, ◌≡◌, ◌⊎◌, ℕ, ◌+◌, ◌<◌, ◌≤◌, Bool, true, false, cond, nat_lt, IsTrue, slice_get, Some, List, [], ◌∷◌, ◌++◌, length, set, map, take, count_by, refl, sym, ap, ◌∙◌, subst, inl, inr, length-set, get_or-set_same, get_or-set_other, zero, suc, list_all, Contains, cases_eq, ltb-true, take_more, Contains-get_or, slice_get_within, get_or_from_slice_get, Among, among_from_contains, Limits, are_in_range, data_start, all_among, sum_by-cons, length-map, among_map, Ext, has, among_where, marked, common_steps, both_ways, false_from_ne_true, map_among}
 use Rattle.std.proofs.lemmas.List.{map-append}
 use Rattle.std.proofs.lemmas.List.Sums.{sum_by-set}
 use Rattle.lis_blockmap.specs.Bitmap.{is_taken}
@@ -68,7 +68,7 @@ pub among_got : (ns : List ℕ) (k n : ℕ) → slice_get ns k ≡ Some n → Am
 among_got ns k n is = among_from_contains ns n (subst (λ m. Contains ns m) (get_or_from_slice_get ns k n 0 is) (Contains-get_or ns k 0 (slice_get_within ns k n is)))
 
 -- the block of a row
-pub row_home : (limits : Limits) (ns : List ℕ) (k n : ℕ) → IsTrue (are_stored limits) → list_all (λ m. nat_lt m limits.props) ns ≡ true → slice_get ns k ≡ Some n → block_of limits Rows n < data_start limits
+pub row_home : (limits : Limits) (ns : List ℕ) (k n : ℕ) → IsTrue (are_in_range limits) → list_all (λ m. nat_lt m limits.props) ns ≡ true → slice_get ns k ≡ Some n → block_of limits Rows n < data_start limits
 row_home limits ns k n range below is =
     let lt = ltb-true n limits.props (all_among (λ m. nat_lt m limits.props) ns n below (among_got ns k n is)) in
     (among_slots limits range Rows n (omega (arith, lt, rows_counted limits range))).1

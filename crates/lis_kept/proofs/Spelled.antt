@@ -1,6 +1,6 @@
 -- Blocks whose slots are spelled by what memory keeps.
 use Rattle.std.proofs.Common.{arith, replicate}
-use Rattle.lis_kept.proofs.Common.{rules, ◌≡◌, ap, ap₂, ◌∙◌, ℕ, ◌+◌, ◌*◌, ◌<◌, ◌≤◌, List, ◌++◌, length, take, drop, ◌/◌, false, refl, ◌-◌, ◌%◌, IsTrue, part, Ext, has, AxiomSlot, prop_bytes, axiom_bytes, file_bytes, are_stored, bitmap_start, data_start}
+use Rattle.lis_kept.proofs.Common.{rules, ◌≡◌, ap, ap₂, ◌∙◌, ℕ, ◌+◌, ◌*◌, ◌<◌, ◌≤◌, List, ◌++◌, length, take, drop, ◌/◌, false, refl, ◌-◌, ◌%◌, IsTrue, part, Ext, has, AxiomSlot, prop_bytes, axiom_bytes, file_bytes, are_in_range, bitmap_start, data_start}
 use Rattle.lis_ports.proofs.Parts.{length-part, part-put, part-put_other}
 use Rattle.lis_slots.proofs.Putting.{put_between, places_apart}
 use Rattle.lis_bits.specs.Bytes.{bits_bytes}
@@ -34,7 +34,7 @@ row_bytes_same d e prop count same =
     ap (λ n. bits_bytes (n / 8) (has e prop)) count ∙ bytes_same (length d.sets / 8) (has e prop) (has d prop) (λ file lt. same file)
 
 -- ---- blocks whose slots are spelled by what memory keeps
-module _ (k : Metadata) (range : IsTrue (are_stored k.limits)) (n : ℕ) (block : List ℕ) where
+module _ (k : Metadata) (range : IsTrue (are_in_range k.limits)) (n : ℕ) (block : List ℕ) where
   pub properties_block : (start : ℕ) → start ≡ properties_start k.limits → properties_start k.limits ≤ n → n < axioms_start k.limits
       → ((j : ℕ) → j < 64 → part (64 * j) 64 block ≡ prop_bytes (property_at k.dict k.declared (64 * (n - start) + j))) → IsBlock k n block
   properties_block start at from to is = one_area k range Properties n block from to (λ m lt here.

@@ -1,6 +1,6 @@
 -- Blocks that are staged one by one, each as memory spells it.
 use Rattle.std.proofs.Common.{arith}
-use Rattle.lis_kept.proofs.Common.{rules, ◌≡◌, ◌⊎◌, ℕ, ◌+◌, ◌<◌, ◌≤◌, ◌==◌, Bool, true, false, cond, List, [], ◌∷◌, length, take, count_by, IsTrue, refl, sym, ap, ◌∙◌, inl, inr, cases_eq, cases_lt, ne_eqb, Held, are_stored, data_start}
+use Rattle.lis_kept.proofs.Common.{rules, ◌≡◌, ◌⊎◌, ℕ, ◌+◌, ◌<◌, ◌≤◌, ◌==◌, Bool, true, false, cond, List, [], ◌∷◌, length, take, count_by, IsTrue, refl, sym, ap, ◌∙◌, inl, inr, cases_eq, cases_lt, ne_eqb, Held, are_in_range, data_start}
 use Rattle.std.proofs.lemmas.Bool.{eq-eqb}
 use Rattle.std.proofs.lemmas.List.Sums.{count_by_more_no, count_by_more_yes, sum_by-take-le}
 use Rattle.lis_journal.specs.Record.{HomeBlock}
@@ -36,7 +36,7 @@ staged_some [] n bytes here = absurd (let e : ◌≡◌ {A = List ℕ} [] (0 ∷
 staged_some (e ∷ es) n bytes here = omega arith
 
 -- nothing yet
-pub staged_none : (k : Metadata) (old : Held) → IsTrue (are_stored k.limits) → StagedBelow k (properties_start k.limits) old old
+pub staged_none : (k : Metadata) (old : Held) → IsTrue (are_in_range k.limits) → StagedBelow k (properties_start k.limits) old old
 staged_none k old range = search (rules, among_slots)
 
 module _ (k : Metadata) (n : ℕ) (old now : Held) (within : n < length k.marks) (from : properties_start k.limits ≤ n) (so_far : StagedBelow k n old now) where
@@ -86,5 +86,5 @@ pub marks_before : (k : Metadata) (n : ℕ) → n < length k.marks → is_marked
 marks_before k n within marked = omega (arith, count_front k.marks (n + 1), count_by_more_yes (λ (b : Bool). b) k.marks n false within marked)
 
 -- all of them
-pub staged_all : (k : Metadata) (end : ℕ) (old new : Held) → IsTrue (are_stored k.limits) → end ≡ data_start k.limits → StagedBelow k end old new → Stages k old new
+pub staged_all : (k : Metadata) (end : ℕ) (old new : Held) → IsTrue (are_in_range k.limits) → end ≡ data_start k.limits → StagedBelow k end old new → Stages k old new
 staged_all k end old new range is all = search (rules, count_front, among_slots)

@@ -10,7 +10,7 @@ use Rattle.lis_fields.specs.declared.slots.AxiomSlot.TheVariants.{Pair}
 use Rattle.lis_fields.specs.Layouts.{is_prop, is_record}
 use Rattle.lis_words.specs.Words.{is_plain_word, is_valued, head_bytes}
 use Rattle.lis_model.specs.declared.limits.Limits.{Limits}
-use Rattle.lis_model.specs.Ranges.{are_stored}
+use Rattle.lis_model.specs.Ranges.{are_in_range}
 use Rattle.lis_model.specs.Image.{data_start}
 use Rattle.lis_kept.specs.Metadata.{Metadata, property_at}
 use Rattle.lis_kept.specs.Areas.{axiom_slots}
@@ -28,7 +28,7 @@ pub record IsSoundAxiom (k : Metadata) (slot p q : ℕ) : Type 0 where
   pub plain : (word : List ℕ) → word_of k.dict q ≡ Some word → IsTrue (is_plain_word word)
 
 pub record AreSound (k : Metadata) : Type 0 where
-  pub range : IsTrue (are_stored k.limits)
+  pub range : IsTrue (are_in_range k.limits)
   pub numbers : k.dict.props ≡ k.limits.props
   pub dict : IsDict k.dict
   -- the head of a valued word has a number too

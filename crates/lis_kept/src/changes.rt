@@ -8,7 +8,7 @@ ghost use Rattle.lis_catalog.specs.Catalog.{rec_at, slot_of};
 ghost use Rattle.lis_dict.specs.Dict.{word_of};
 ghost use Rattle.lis_ext.specs.Ext.{has};
 ghost use Rattle.lis_model.specs.Image.{data_start};
-ghost use Rattle.lis_model.specs.Ranges.{are_stored};
+ghost use Rattle.lis_model.specs.Ranges.{are_in_range};
 ghost use Rattle.lis_kept.specs.Areas.{block_of};
 ghost use Rattle.lis_kept.specs.Areas.Area.{Files as FileArea, Rows};
 ghost use Rattle.lis_kept.specs.Sound.{AreSound, is_sound_record};
@@ -26,7 +26,7 @@ use lis_model::limits::Limits;
 
 // Marks the blocks of the rows that changed.
 fn mark_rows(ext: &Ext, limits: &Limits, marks: &mut Flags)
-    requires range { IsTrue (are_stored limits.now) }
+    requires range { IsTrue (are_in_range limits.now) }
     requires long { data_start limits.now ≤ length marks.old }
     requires few { length ext.now.marks ≤ limits.now.props }
     requires below { IsTrue (list_all (λ n. nat_lt n limits.now.props) ext.now.marks) }
@@ -45,7 +45,7 @@ fn mark_rows(ext: &Ext, limits: &Limits, marks: &mut Flags)
 // Marks the block of a file slot.
 #[tactic(auto, using(lis_model::proofs::Stored::stored_records, lis_model::proofs::Stored::few_limits))]
 fn mark_file(marks: &mut Flags, limits: &Limits, slot: u32)
-    requires range { IsTrue (are_stored limits.now) }
+    requires range { IsTrue (are_in_range limits.now) }
     requires slot { slot < limits.now.files }
     requires long { data_start limits.now ≤ length marks.old }
     ensures { marks.new ≡ slice_set marks.old (block_of limits.now FileArea slot) true }

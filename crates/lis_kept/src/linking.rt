@@ -3,7 +3,7 @@
 ghost use Rattle.std.specs.Prelude.{◌≡◌, ◌<◌, ◌≤◌, true, length, count_by, slice_set, IsTrue};
 ghost use Rattle.std.specs.List.{position};
 ghost use Rattle.lis_model.specs.Image.{data_start};
-ghost use Rattle.lis_model.specs.Ranges.{are_stored};
+ghost use Rattle.lis_model.specs.Ranges.{are_in_range};
 ghost use Rattle.lis_kept.specs.Areas.{block_of};
 ghost use Rattle.lis_kept.specs.Areas.Area.{Axioms};
 ghost use Rattle.lis_kept.specs.Links.{is_pair, has_pair};
@@ -20,7 +20,7 @@ use lis_model::limits::Limits;
 // Marks the block of an axiom slot.
 #[tactic(auto, using(lis_model::proofs::Stored::stored_records, lis_model::proofs::Stored::few_limits))]
 fn mark_axiom(marks: &mut Flags, limits: &Limits, slot: usize)
-    requires range { IsTrue (are_stored limits.now) }
+    requires range { IsTrue (are_in_range limits.now) }
     requires slot { slot < limits.now.props }
     requires long { data_start limits.now ≤ length marks.old }
     ensures { marks.new ≡ slice_set marks.old (block_of limits.now Axioms slot) true }

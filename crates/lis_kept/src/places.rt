@@ -2,7 +2,7 @@
 
 ghost use Rattle.std.specs.Prelude.{◌≡◌, ◌≤◌, IsTrue};
 ghost use Rattle.lis_kept.specs.Image.{most_staged, most_placed, image_layout, image_capacity};
-ghost use Rattle.lis_model.specs.Ranges.{are_stored};
+ghost use Rattle.lis_model.specs.Ranges.{are_in_range};
 ghost use Rattle.lis_model.specs.Image.{properties_start, axioms_start, files_start, descriptions_start, bitmap_start, data_start};
 
 use lis_content::Laid;
@@ -17,7 +17,7 @@ use lis_model::limits::{Limits, bitmap_blocks, image_blocks, record_blocks};
 /// How an image of these limits is divided.
 #[tactic(auto, using(lis_model::proofs::Stored::stored_range))]
 pub fn image_layout(limits: &Limits) -> Layout
-    requires { IsTrue (are_stored limits.now) }
+    requires { IsTrue (are_in_range limits.now) }
     ensures { result ≡ image_layout limits.now }
 {
     Layout {
@@ -63,7 +63,7 @@ pub fn image_capacity(limits: &Limits) -> Capacity
 /// The first block of property slots.
 #[tactic(auto, using(lis_model::proofs::Stored::stored_records))]
 pub fn properties_start(limits: &Limits) -> u32
-    requires { IsTrue (are_stored limits.now) }
+    requires { IsTrue (are_in_range limits.now) }
     ensures { result ≡ properties_start limits.now }
 {
     record_blocks(limits) + 2
@@ -72,7 +72,7 @@ pub fn properties_start(limits: &Limits) -> u32
 /// The first block of axiom slots.
 #[tactic(auto, using(lis_model::proofs::Stored::stored_records, lis_model::proofs::Stored::few_limits))]
 pub fn axioms_start(limits: &Limits) -> u32
-    requires { IsTrue (are_stored limits.now) }
+    requires { IsTrue (are_in_range limits.now) }
     ensures { result ≡ axioms_start limits.now }
 {
     properties_start(limits) + limits.props / PROPERTIES_PER_BLOCK
@@ -81,7 +81,7 @@ pub fn axioms_start(limits: &Limits) -> u32
 /// The first block of file slots.
 #[tactic(auto, using(lis_model::proofs::Stored::stored_records, lis_model::proofs::Stored::few_limits))]
 pub fn files_start(limits: &Limits) -> u32
-    requires { IsTrue (are_stored limits.now) }
+    requires { IsTrue (are_in_range limits.now) }
     ensures { result ≡ files_start limits.now }
 {
     axioms_start(limits) + limits.props.div_ceil(AXIOMS_PER_BLOCK as u32)
@@ -90,7 +90,7 @@ pub fn files_start(limits: &Limits) -> u32
 /// The first block that says which words each file has.
 #[tactic(auto, using(lis_model::proofs::Stored::stored_records, lis_model::proofs::Stored::few_limits))]
 pub fn descriptions_start(limits: &Limits) -> u32
-    requires { IsTrue (are_stored limits.now) }
+    requires { IsTrue (are_in_range limits.now) }
     ensures { result ≡ descriptions_start limits.now }
 {
     files_start(limits) + limits.files / FILES_PER_BLOCK
@@ -98,7 +98,7 @@ pub fn descriptions_start(limits: &Limits) -> u32
 
 /// The first data block.
 pub fn data_start(limits: &Limits) -> u32
-    requires { IsTrue (are_stored limits.now) }
+    requires { IsTrue (are_in_range limits.now) }
     ensures start { result ≡ data_start limits.now }
     ensures few { result ≤ MAX_IMAGE_BLOCKS }
 {
@@ -107,7 +107,7 @@ pub fn data_start(limits: &Limits) -> u32
 
 /// The first block of the bitmap.
 pub fn bitmap_start(limits: &Limits) -> u32
-    requires { IsTrue (are_stored limits.now) }
+    requires { IsTrue (are_in_range limits.now) }
     ensures { result ≡ bitmap_start limits.now }
 {
     data_start(limits) - bitmap_blocks(limits)
@@ -115,7 +115,7 @@ pub fn bitmap_start(limits: &Limits) -> u32
 
 /// Where the content of a file is, by its record.
 pub fn laid_by<'a>(limits: &Limits, rec: &'a FileRec) -> Laid<'a>
-    requires { IsTrue (are_stored limits.now) }
+    requires { IsTrue (are_in_range limits.now) }
     ensures version { result.version ≡ limits.now.version }
     ensures base { result.base ≡ data_start limits.now }
     ensures blocks { result.blocks.now ≡ rec.now.blocks }

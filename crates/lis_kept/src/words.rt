@@ -5,7 +5,7 @@ ghost use Rattle.std.specs.List.{list_any};
 ghost use Rattle.lis_dict.specs.Dict.{IsDict, number_of, word_of};
 ghost use Rattle.lis_fields.specs.Layouts.{is_undeclared};
 ghost use Rattle.lis_model.specs.Image.{data_start};
-ghost use Rattle.lis_model.specs.Ranges.{are_stored};
+ghost use Rattle.lis_model.specs.Ranges.{are_in_range};
 ghost use Rattle.lis_model.specs.State.{is_declarable};
 ghost use Rattle.lis_taxonomy.specs.Taxonomy.{has_edge, edge_count, edge_room};
 ghost use Rattle.lis_words.specs.Words.{is_valued, head_bytes};
@@ -37,7 +37,7 @@ use lis_words::{Word, head_of, is_valued};
 // Marks the block of a property slot.
 #[tactic(auto, using(lis_model::proofs::Stored::stored_records, lis_model::proofs::Stored::few_limits))]
 fn mark_property(marks: &mut Flags, limits: &Limits, number: u32)
-    requires range { IsTrue (are_stored limits.now) }
+    requires range { IsTrue (are_in_range limits.now) }
     requires number { number < limits.now.props }
     requires long { data_start limits.now ≤ length marks.old }
     ensures { marks.new ≡ slice_set marks.old (block_of limits.now Properties number) true }

@@ -1,6 +1,6 @@
 pub mod Runs
 pub mod Lines
 mod Examples
-pub mod Stored
+pub mod Ranges
 pub mod NotedLemmas
 pub mod Distinct

@@ -32,7 +32,3 @@ abbrev pub are_in_range : Limits → Bool
 are_in_range limits =
     is_files_limit limits.version limits.files && is_props_limit limits.version limits.props && is_blocks_limit limits.version limits.blocks
     && is_version limits.version
-
--- the limits of an image of this program: those of versions 1 and 2
-abbrev pub are_stored : Limits → Bool
-are_stored limits = are_in_range limits && nat_le limits.version 2

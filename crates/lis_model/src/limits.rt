@@ -1,7 +1,7 @@
 //! The limits of a state.
 
-ghost use Rattle.std.specs.Prelude.{◌≡◌, ◌<◌, ◌≤◌, IsTrue};
-ghost use Rattle.lis_model.specs.Ranges.{most_files, most_props, most_blocks, is_files_limit, is_props_limit, is_blocks_limit, is_version, are_in_range, are_stored};
+ghost use Rattle.std.specs.Prelude.{◌≡◌, ◌≢◌, ◌<◌, ◌≤◌, IsTrue};
+ghost use Rattle.lis_model.specs.Ranges.{most_files, most_props, most_blocks, is_files_limit, is_props_limit, is_blocks_limit, is_version, are_in_range};
 ghost use Rattle.lis_model.specs.State.{file_limit, blocks_taken};
 ghost use Rattle.lis_model.specs.Image.{record_blocks, description_blocks, bitmap_blocks, image_blocks};
 
@@ -133,7 +133,7 @@ pub fn record_blocks(limits: &Limits) -> u32
 }
 
 /// How many blocks of an image say which words each file has.
-#[tactic(auto, using(crate::proofs::Stored::described_few), unfolding(crate::specs::Image::description_blocks))]
+#[tactic(auto, using(crate::proofs::Ranges::described_few), unfolding(crate::specs::Image::description_blocks))]
 pub fn description_blocks(limits: &Limits) -> u32
     requires { IsTrue (are_in_range limits.now) }
     ensures { result ≡ description_blocks limits.now }
@@ -157,7 +157,7 @@ pub fn image_blocks(limits: &Limits) -> u32
     requires { IsTrue (are_in_range limits.now) }
     ensures blocks { result ≡ image_blocks limits.now }
     ensures few { result ≤ V3_MAX_IMAGE_BLOCKS }
-    ensures fewer { IsTrue (are_stored limits.now) → result ≤ MAX_IMAGE_BLOCKS }
+    ensures fewer { limits.now.version ≢ 3 → result ≤ MAX_IMAGE_BLOCKS }
 {
     let properties = limits.props / PROPERTIES_PER_BLOCK;
     let axioms = limits.props.div_ceil(AXIOMS_PER_BLOCK as u32);

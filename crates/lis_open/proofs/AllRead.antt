@@ -1,7 +1,7 @@
 -- The contents of the slots that were read, and the state that they spell.
 pub use Rattle.lis_open.specs.ReadAll.{HasRead}
 use Rattle.std.proofs.Common.{◌≢◌, IfOk}
-use Rattle.lis_open.proofs.Common.{rules, ◌≡◌, ◌∙◌, refl, sym, ap, ap₂, subst, inl, inr, ℕ, ◌*◌, Bool, true, List, [], map, Option, Some, None, slice_get, IsTrue, arith, ◌+◌, ◌/◌, ◌<◌, ◌≤◌, not, false, is_some, replicate, Result, Ok, Err, IfSome, OnOk, ⊎_elim, fold, eq-eqb, insert_key, Among, contains_from_among, among_map, map_among, among_flat_map, IsDict, word_of, number_from_word, Filed, rec_at, has, numbers_at, FileRecord, file_bytes, is_file, Pair, FileSlot, word_cmp, is_valued, same_word, head_bytes, same_word_decides, Limits, State, file_cmp, description, known, Metadata, record_at, axiom_slots, file_slots, bit_of, words_told, file_told, state_of, is_head_by, is_used, among_from_number, filed_rec, filed_at_slot, declared_there, there_declared, Contents, AreSlots, all_records, spelled_state, contents_of, cases_eq, cases_lt, length-replicate, bits_bytes, is_taken, FreeFile, among_from_has_word, Spot, Word, Row, are_stored, data_start, row_slots, AreSound, word_at, is_had_by, row_bit, and_parts, and_from, both_ways, false_from_ne_true, flat_map_among, File, has_from_among, file_of_record, not_true, zeros, has_word, has_word_from_among, Bitmap, or_left, list_any, is_left_of, is_left_head_of, any_from_among, among_place, cases_Bool}
+use Rattle.lis_open.proofs.Common.{rules, ◌≡◌, ◌∙◌, refl, sym, ap, ap₂, subst, inl, inr, ℕ, ◌*◌, Bool, true, List, [], map, Option, Some, None, slice_get, IsTrue, arith, ◌+◌, ◌/◌, ◌<◌, ◌≤◌, not, false, is_some, replicate, Result, Ok, Err, IfSome, OnOk, ⊎_elim, fold, eq-eqb, insert_key, Among, contains_from_among, among_map, map_among, among_flat_map, IsDict, word_of, number_from_word, Filed, rec_at, has, numbers_at, FileRecord, file_bytes, is_file, Pair, FileSlot, word_cmp, is_valued, same_word, head_bytes, same_word_decides, Limits, State, file_cmp, description, known, Metadata, record_at, axiom_slots, file_slots, bit_of, words_told, file_told, state_of, is_head_by, is_used, among_from_number, filed_rec, filed_at_slot, declared_there, there_declared, Contents, AreSlots, all_records, spelled_state, contents_of, cases_eq, cases_lt, length-replicate, bits_bytes, is_taken, FreeFile, among_from_has_word, Spot, Word, Row, are_in_range, data_start, row_slots, AreSound, word_at, is_had_by, row_bit, and_parts, and_from, both_ways, false_from_ne_true, flat_map_among, File, has_from_among, file_of_record, not_true, zeros, has_word, has_word_from_among, Bitmap, or_left, list_any, is_left_of, is_left_head_of, any_from_among, among_place, cases_Bool}
 use Rattle.std.specs.List.{range_with_len}
 use Rattle.std.proofs.lemmas.List.FromFn.{length-map-range_with_len, get_or-map-range_with_len}
 use Rattle.lis_graph.proofs.Ranges.{range_among}
@@ -296,7 +296,7 @@ module _ (limits : Limits) (at : ℕ → List ℕ) (words : Words) (axioms : Axi
   bits_pass same = none_fails limits at 6 (λ n fails. bit_passes n (same n fails.below) fails)
 
   -- ---- rows
-  module _ (range : IsTrue (are_stored limits)) (used : (n : ℕ) → is_stray (metadata_in limits words axioms files (no_marks limits)) n ≡ false) where
+  module _ (range : IsTrue (are_in_range limits)) (used : (n : ℕ) → is_stray (metadata_in limits words axioms files (no_marks limits)) n ≡ false) where
     all_read : AreRead limits words axioms files (no_marks limits)
     all_read = record { words_are = read.words_are; axioms_are = read.axioms_are; files_are = read.files_are; used = used }
 
@@ -408,7 +408,7 @@ module _ (limits : Limits) (at : ℕ → List ℕ) (words : Words) (axioms : Axi
     pub bitmap_failed : (fault : OpenFault) → BitmapDiffers limits at files.map fault → PartsFail limits at fault
     bitmap_failed fault differs = search (rules, first_of_all, words_passed, first_difference)
 
-    module _ (range : IsTrue (are_stored limits)) (bitmap : AreBitmapBlocks limits at files.map) where
+    module _ (range : IsTrue (are_in_range limits)) (bitmap : AreBitmapBlocks limits at files.map) where
       bitmap_passed : PassBelow limits at 7
       bitmap_passed =
           pass_more limits at 6 words_passed

@@ -1,6 +1,6 @@
 -- The blocks of a file as they are read: those that its slot lists, and those that its index blocks list.
 use Rattle.std.proofs.Common.{rules}
-use Rattle.lis_open.proofs.Common.{◌∙◌, ℕ, List, IsTrue, ◌≡◌, refl, sym, ap, ◌^◌, ◌<◌, ◌≤◌, ◌&&◌, Bool, Option, Some, [], arith, IfSome, subst, true, false, length, data_start, Meaning, IsSettled, Held, Fits, Slots, slot, PropSlot, FileSlot, prop_once, Limits, are_stored, image_blocks, few_properties, list_all-append, are_free, are_distinct, FileRecord, is_record, blocks_told, HasIndex, and_parts, both_ways}
+use Rattle.lis_open.proofs.Common.{◌∙◌, ℕ, List, IsTrue, ◌≡◌, refl, sym, ap, ◌^◌, ◌<◌, ◌≤◌, ◌&&◌, Bool, Option, Some, [], arith, IfSome, subst, true, false, length, data_start, Meaning, IsSettled, Held, Fits, Slots, slot, PropSlot, FileSlot, prop_once, Limits, are_in_range, image_blocks, few_properties, list_all-append, are_free, are_distinct, FileRecord, is_record, blocks_told, HasIndex, and_parts, both_ways}
 use Rattle.lis_journal.proofs.Fitting.{fits_unchanged}
 use Rattle.lis_open.specs.declared.blocks.LastBlock.{LastBlock}
 use Rattle.lis_ports.specs.Calls.{OnlyReads}
@@ -29,7 +29,7 @@ StillRecalls journal old before last = (kept : ℕ → List ℕ) → Fits journa
 
 -- ---- slots and the values that they spell
 -- the blocks of an image have numbers of 32 bits
-pub few_blocks : (limits : Limits) (blocks : ℕ) → IsTrue (are_stored limits) → blocks ≡ image_blocks limits → blocks < 2 ^ 32
+pub few_blocks : (limits : Limits) (blocks : ℕ) → IsTrue (are_in_range limits) → blocks ≡ image_blocks limits → blocks < 2 ^ 32
 few_blocks limits blocks range is =
     omega (arith, is, stored_records limits range, fewer_descriptions limits range, stored_bitmap limits range, few_files limits range, few_properties limits range, few_data limits range)
 
@@ -50,12 +50,12 @@ pub one_file : (limits : Limits) (at : ℕ → List ℕ) (n : ℕ) (a b : FileSl
 one_file limits at n a b is_a is_b = file_once limits a b is_a.range is_b.range (sym is_a.bytes ∙ is_b.bytes)
 
 -- ---- well-formed records
-pub size_of_form : (limits : Limits) (rec : FileRecord) {seen : FileRecord} → IsTrue (are_stored limits) → IsTrue (is_record limits rec) → seen ≡ rec → seen.size ≤ 1048576
+pub size_of_form : (limits : Limits) (rec : FileRecord) {seen : FileRecord} → IsTrue (are_in_range limits) → IsTrue (is_record limits rec) → seen ≡ rec → seen.size ≤ 1048576
 size_of_form limits rec range form view =
     omega (arith, stored_limit_le limits range, (record_tests limits rec form).small, ap (λ (r : FileRecord). r.size) view)
 
 -- a slot has the numbers of index blocks if its file has any, and otherwise those of its blocks
-pub slot_of_form : (limits : Limits) (rec : FileRecord) → IsTrue (are_stored limits) → IsTrue (is_record limits rec) → length rec.blocks ≡ slot_count rec.size
+pub slot_of_form : (limits : Limits) (rec : FileRecord) → IsTrue (are_in_range limits) → IsTrue (is_record limits rec) → length rec.blocks ≡ slot_count rec.size
 slot_of_form limits rec range form =
     let tests = record_tests limits rec form in
     few_in_form limits.version rec.size rec.blocks tests.blocks ∙ slot_blocks_counted limits rec.size range tests.small

@@ -38,7 +38,7 @@ pub use Rattle.lis_laws.proofs.Chains.{head_not_valued}
 pub use Rattle.lis_laws.proofs.Counts.{all_among}
 pub use Rattle.lis_laws.proofs.Members.{among_from_has_word, among_set_of, has_word_from_among, same_word_decides, set_of_among, sorted_set_of}
 pub use Rattle.lis_model.specs.Image.{bitmap_start, data_start, image_blocks}
-pub use Rattle.lis_model.specs.Ranges.{are_stored}
+pub use Rattle.lis_model.specs.Ranges.{are_in_range}
 pub use Rattle.lis_model.specs.Sets.{set_of, are_distinct, has_number}
 pub use Rattle.lis_model.specs.State.{File, State, WellFormed, blocks_needed, description, file_cmp, file_words, is_assignable, is_nameable, known, own_words, pair_cmp, up}
 pub use Rattle.lis_model.specs.Tests.{met_tests}

@@ -1,7 +1,7 @@
 -- What is read of a file's content.
 use Rattle.std.proofs.Common.{◌-◌, take-append-drop, length-take-le}
 use Rattle.std.specs.List.{flat_map, list_all}
-use Rattle.lis_open.proofs.Common.{◌≡◌, ◌∙◌, inr, sym, ap, ap₂, subst, ℕ, zero, suc, ◌+◌, ◌*◌, ◌<◌, ◌≤◌, nat_lt, Bool, true, List, [], ◌∷◌, ◌++◌, length, take, drop, get_or, IsTrue, arith, and_parts, ltb-true, length-drop, Meaning, DiskFaultEnds, Held, Fits, FileRecord, is_record, Limits, data_start, list_all-append, blocks_needed, blocks_told, bytes_told, met_tests, all_among, are_stored}
+use Rattle.lis_open.proofs.Common.{◌≡◌, ◌∙◌, inr, sym, ap, ap₂, subst, ℕ, zero, suc, ◌+◌, ◌*◌, ◌<◌, ◌≤◌, nat_lt, Bool, true, List, [], ◌∷◌, ◌++◌, length, take, drop, get_or, IsTrue, arith, and_parts, ltb-true, length-drop, Meaning, DiskFaultEnds, Held, Fits, FileRecord, is_record, Limits, data_start, list_all-append, blocks_needed, blocks_told, bytes_told, met_tests, all_among, are_in_range}
 use Rattle.lis_ports.specs.Calls.{OnlyReads}
 use Rattle.lis_ports.specs.Bytes.{part}
 use Rattle.lis_journal.specs.Images.{look}
@@ -77,7 +77,7 @@ block_read staged kept home long size at bytes none sized read =
 
 -- the content of a record's file, by all its blocks
 pub content_of_told : (limits : Limits) (rec : FileRecord) (kept : ℕ → List ℕ) (base count : ℕ) (blocks part : List ℕ) → base ≡ data_start limits → count ≡ blocks_needed rec.size
-    → IsTrue (are_stored limits) → IsTrue (is_record limits rec) → part ≡ take count blocks → blocks ≡ blocks_told limits kept rec → content base part rec.size kept ≡ bytes_told limits kept rec
+    → IsTrue (are_in_range limits) → IsTrue (is_record limits rec) → part ≡ take count blocks → blocks ≡ blocks_told limits kept rec → content base part rec.size kept ≡ bytes_told limits kept rec
 content_of_told limits rec kept base count blocks part from needed range form is told =
     ap (λ b. content b part rec.size kept) from
     ∙ ap (λ ns. content (data_start limits) ns rec.size kept)

@@ -1,6 +1,6 @@
 -- If blocks spell a state, no part fails its check.
 use Rattle.std.proofs.Common.{◌≢◌, get_or-drop}
-use Rattle.lis_open.proofs.Common.{rules, ◌≡◌, ◌∙◌, refl, sym, ap, subst, inl, inr, ℕ, ◌+◌, ◌-◌, ◌*◌, ◌/◌, ◌<◌, ◌≤◌, nat_lt, nat_le, Bool, true, false, is_some, List, [], ◌∷◌, length, map, take, drop, get_or, slice_get, Option, Some, None, arith, option_to_list, length-drop, flat_map, ltb-true, leb-true, length-take-le, ⊎_elim, list_all, or-false, cases_lt, length-replicate, slice_get_within, get_or_from_slice_get, same_Some, Among, among_from_contains, contains_from_among, among_left, map_among, among_flat_map, block, Slots, slot, row_bit, is_had_by, marked, replicate, are_distinct, FileRecord, prop_bytes, is_prop, axiom_bytes, is_axiom, file_bytes, is_file, PropSlot, FreeProp, AxiomSlot, FreeAxiom, Pair, FileSlot, FreeFile, Used, prop_once, axiom_once, word_cmp, is_plain_word, head_bytes, among_from_has_word, among_set_of, Limits, Spot, Super, BadRecord, Property, Axiom, Word, Row, State, description, known, is_nameable, is_assignable, property_slots, axiom_slots, file_slots, blocks_told, among_from_number, placed_at, among_place, Contents, AreSlots, word_in, words_in, word_at, all_records, spelled_state, one_array, AllApart, and_parts, both_ways, get_or_past, slice_get-get_or, flat_map_among, replayed, has_number, has_word, has_word_from_among, set_of_among, all_among, Bitmap, set_of, File, pair_cmp, has_from_among, file_of_record, are_stored, IsTrue}
+use Rattle.lis_open.proofs.Common.{rules, ◌≡◌, ◌∙◌, refl, sym, ap, subst, inl, inr, ℕ, ◌+◌, ◌-◌, ◌*◌, ◌/◌, ◌<◌, ◌≤◌, nat_lt, nat_le, Bool, true, false, is_some, List, [], ◌∷◌, length, map, take, drop, get_or, slice_get, Option, Some, None, arith, option_to_list, length-drop, flat_map, ltb-true, leb-true, length-take-le, ⊎_elim, list_all, or-false, cases_lt, length-replicate, slice_get_within, get_or_from_slice_get, same_Some, Among, among_from_contains, contains_from_among, among_left, map_among, among_flat_map, block, Slots, slot, row_bit, is_had_by, marked, replicate, are_distinct, FileRecord, prop_bytes, is_prop, axiom_bytes, is_axiom, file_bytes, is_file, PropSlot, FreeProp, AxiomSlot, FreeAxiom, Pair, FileSlot, FreeFile, Used, prop_once, axiom_once, word_cmp, is_plain_word, head_bytes, among_from_has_word, among_set_of, Limits, Spot, Super, BadRecord, Property, Axiom, Word, Row, State, description, known, is_nameable, is_assignable, property_slots, axiom_slots, file_slots, blocks_told, among_from_number, placed_at, among_place, Contents, AreSlots, word_in, words_in, word_at, all_records, spelled_state, one_array, AllApart, and_parts, both_ways, get_or_past, slice_get-get_or, flat_map_among, replayed, has_number, has_word, has_word_from_among, set_of_among, all_among, Bitmap, set_of, File, pair_cmp, has_from_among, file_of_record, are_in_range, IsTrue}
 use Rattle.lis_open.proofs.AxiomsRead.{axiom_fault_by}
 use Rattle.lis_open.proofs.SpotKinds.{behind}
 use Rattle.std.proofs.lemmas.List.{length-map}
@@ -63,7 +63,7 @@ used_record FreeFile rec m = absurd m
 used_record (Used r) rec (inl same) = ap Used same
 used_record (Used r) rec (inr m) = absurd m
 
-module _ (limits : Limits) (contents : Contents) (at : ℕ → List ℕ) (range : IsTrue (are_stored limits)) (spells : Spells limits contents at (spelled_state limits contents at)) where
+module _ (limits : Limits) (contents : Contents) (at : ℕ → List ℕ) (range : IsTrue (are_in_range limits)) (spells : Spells limits contents at (spelled_state limits contents at)) where
   abbrev s : State
   s = spelled_state limits contents at
 
@@ -331,7 +331,7 @@ module _ (limits : Limits) (contents : Contents) (at : ℕ → List ℕ) (range 
   none_fails (Set n) fails = no_set n fails
 
 -- if blocks spell a state, no part after the journal fails its check
-pub spelled_passes : (limits : Limits) (contents : Contents) (at : ℕ → List ℕ) (s : State) (spot : Spot) → IsTrue (are_stored limits) → Spells limits contents at s → Fails limits at spot → ⊥
+pub spelled_passes : (limits : Limits) (contents : Contents) (at : ℕ → List ℕ) (s : State) (spot : Spot) → IsTrue (are_in_range limits) → Spells limits contents at s → Fails limits at spot → ⊥
 spelled_passes limits contents at s spot range spells = none_fails limits contents at range (subst (λ (t : State). Spells limits contents at t) spells.state spells) spot
 
 -- ---- images

@@ -1,5 +1,5 @@
 -- What was read and checked is what a store may keep.
-use Rattle.lis_open.proofs.Common.{rules, length-take, ◌≡◌, ◌∙◌, refl, sym, ap, ap₂, subst, ℕ, zero, ◌<◌, ◌≤◌, Bool, true, false, List, Option, Some, None, is_some, IsSome, slice_get, IsTrue, [], length, arith, suc, ◌+◌, ◌-◌, nat_le, ◌&&◌, ◌∷◌, sum, length-append, le-leb, option_to_list, flat_map, Contains, same_Some, Among, IsDict, number_of, word_of, rec_at, has, numbers_at, FileRecord, is_prop, Pair, is_plain_word, is_valued, same_word, head_bytes, head_not_valued, same_word_decides, Limits, are_stored, own_words, is_assignable, Metadata, property_by, AreSound, is_head_by, is_used, among_from_number, list_all, is_test, Held, words_told, IsSound, among_from_contains, contains_from_among, among_flat_map, is_taken, are_distinct, Dict, Filed, SpellsSuper, AxiomSlot, FreeAxiom, word_cmp, sorted_set_of, data_start, State, description, is_nameable, file_cmp, WellFormed, pair_by, pairs_told, bytes_told, blocks_told, file_told, state_of, Tells, filed_rec, filed_at_slot, Stored, and_parts, both_ways, false_from_ne_true, and_from, has_number, all_among, has_from_among, has_word, File, pair_cmp, has_word_from_among, IsWritten}
+use Rattle.lis_open.proofs.Common.{rules, length-take, ◌≡◌, ◌∙◌, refl, sym, ap, ap₂, subst, ℕ, zero, ◌<◌, ◌≤◌, Bool, true, false, List, Option, Some, None, is_some, IsSome, slice_get, IsTrue, [], length, arith, suc, ◌+◌, ◌-◌, nat_le, ◌&&◌, ◌∷◌, sum, length-append, le-leb, option_to_list, flat_map, Contains, same_Some, Among, IsDict, number_of, word_of, rec_at, has, numbers_at, FileRecord, is_prop, Pair, is_plain_word, is_valued, same_word, head_bytes, head_not_valued, same_word_decides, Limits, are_in_range, own_words, is_assignable, Metadata, property_by, AreSound, is_head_by, is_used, among_from_number, list_all, is_test, Held, words_told, IsSound, among_from_contains, contains_from_among, among_flat_map, is_taken, are_distinct, Dict, Filed, SpellsSuper, AxiomSlot, FreeAxiom, word_cmp, sorted_set_of, data_start, State, description, is_nameable, file_cmp, WellFormed, pair_by, pairs_told, bytes_told, blocks_told, file_told, state_of, Tells, filed_rec, filed_at_slot, Stored, and_parts, both_ways, false_from_ne_true, and_from, has_number, all_among, has_from_among, has_word, File, pair_cmp, has_word_from_among, IsWritten}
 use Rattle.lis_bits.proofs.Subset.{implied}
 use Rattle.lis_laws.proofs.Apart.{declarable_not_valued}
 use Rattle.lis_laws.proofs.Counts.{all_from, rising_from_sorted}
@@ -147,7 +147,7 @@ module _ (limits : Limits) (words : Words) (axioms : Axioms) (files : Files) (ma
   named_filed : (n slot : ℕ) → IsSome (rec_at files.catalog slot) → has files.ext n slot ≡ true → IsSome (word_of words.dict n)
   named_filed n slot file h = named n slot h
 
-  module _ (range : IsTrue (are_stored limits)) (clean : AreNoMarks limits marks) where
+  module _ (range : IsTrue (are_in_range limits)) (clean : AreNoMarks limits marks) where
     pub metadata_sound : AreSound k
     metadata_sound = assumption (read.words_are.are.long ∙ read.words_are.props, headed, sound_axiom, named_filed)
 
@@ -168,7 +168,7 @@ module _ (limits : Limits) (words : Words) (axioms : Axioms) (files : Files) (ma
     }
 
 -- ---- tests in the descriptions that were read: a file has those that its size meets, and no others
-module _ (limits : Limits) (words : Words) (axioms : Axioms) (files : Files) (marks : List Bool) (read : AreRead limits words axioms files marks) (range : IsTrue (are_stored limits)) (clean : AreNoMarks limits marks) where
+module _ (limits : Limits) (words : Words) (axioms : Axioms) (files : Files) (marks : List Bool) (read : AreRead limits words axioms files marks) (range : IsTrue (are_in_range limits)) (clean : AreNoMarks limits marks) where
   abbrev metadata : Metadata
   metadata = metadata_in limits words axioms files marks
 
@@ -233,7 +233,7 @@ few_pairs dict end (Pair p q ∷ xs) first below =
     one (Some l) None = omega arith
     one (Some l) (Some r) = omega arith
 
-module _ (limits : Limits) (words : Words) (axioms : Axioms) (files : Files) (marks : List Bool) (at : ℕ → List ℕ) (read : AreRead limits words axioms files marks) (spelled : AreSpelled limits at words axioms files) (range : IsTrue (are_stored limits)) (clean : AreNoMarks limits marks) where
+module _ (limits : Limits) (words : Words) (axioms : Axioms) (files : Files) (marks : List Bool) (at : ℕ → List ℕ) (read : AreRead limits words axioms files marks) (spelled : AreSpelled limits at words axioms files) (range : IsTrue (are_in_range limits)) (clean : AreNoMarks limits marks) where
   abbrev held : Metadata
   held = metadata_in limits words axioms files marks
 

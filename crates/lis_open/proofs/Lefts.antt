@@ -1,7 +1,7 @@
 -- Rows of the left sides of axioms and of their heads, and the words that are not in use.
 use Rattle.std.proofs.Common.{rules}
 use Rattle.std.proofs.Common.{min, ◌↔◌, ◌≢◌}
-use Rattle.lis_open.proofs.Common.{◌≡◌, ◌∙◌, inl, inr, sym, ap, ap₂, ℕ, ◌+◌, ◌*◌, ◌/◌, ◌<◌, ◌≤◌, ◌==◌, Bool, are_stored, image_blocks, few_properties, false, List, length, IsTrue, arith, subst, refl, if◌then◌else◌, ◌&&◌, ◌||◌, not, true, cond, Some, None, is_some, list_all, bits_bytes, has, Limits, slot, Row, row_slots, both_ways, list_any, or-false, HasShape, get, with_row, is_taken, Dict, IsDict, word_of, AxiomSlot, Metadata, is_head_by, is_had, is_left_of, is_left_head_of, is_used, Rows}
+use Rattle.lis_open.proofs.Common.{◌≡◌, ◌∙◌, inl, inr, sym, ap, ap₂, ℕ, ◌+◌, ◌*◌, ◌/◌, ◌<◌, ◌≤◌, ◌==◌, Bool, are_in_range, image_blocks, few_properties, false, List, length, IsTrue, arith, subst, refl, if◌then◌else◌, ◌&&◌, ◌||◌, not, true, cond, Some, None, is_some, list_all, bits_bytes, has, Limits, slot, Row, row_slots, both_ways, list_any, or-false, HasShape, get, with_row, is_taken, Dict, IsDict, word_of, AxiomSlot, Metadata, is_head_by, is_had, is_left_of, is_left_head_of, is_used, Rows}
 use Rattle.lis_fields.specs.Layouts.{zeros}
 use Rattle.std.proofs.lemmas.Bool.Decides.{nat_tests}
 use Rattle.lis_bits.proofs.Numbers.{bytes_none}
@@ -36,11 +36,11 @@ zeros_decide e files number bytes all count width none is = search (rules, zeros
 
 -- ---- rows as they are read
 -- there are rows in versions 1 and 2
-pub has_rows : (limits : Limits) → IsTrue (are_stored limits) → limits.version ≢ 3
+pub has_rows : (limits : Limits) → IsTrue (are_in_range limits) → limits.version ≢ 3
 has_rows limits range third = elim ((stored_parts limits range).version) [ inl one ↦ omega (arith, one, third) | inr two ↦ omega (arith, two, third) ]
 
 -- there are few of them
-pub few_rows : (limits : Limits) → IsTrue (are_stored limits) → 4096 / (limits.files / 8) * ((limits.props * limits.files + 32767) / 32768) ≤ 2000000
+pub few_rows : (limits : Limits) → IsTrue (are_in_range limits) → 4096 / (limits.files / 8) * ((limits.props * limits.files + 32767) / 32768) ≤ 2000000
 few_rows limits range =
     each_files_limit (λ files. 4096 / (files / 8) * ((limits.props * files + 32767) / 32768) ≤ 2000000) limits.files (files_range limits range)
     (omega (arith, few)) (omega (arith, few)) (omega (arith, few)) (omega (arith, few)) (omega (arith, few)) (omega (arith, few)) (omega (arith, few))
@@ -49,7 +49,7 @@ few_rows limits range =
     few = few_properties limits range
 
 -- each has its place before the bitmap
-pub row_within : (limits : Limits) (p width first blocks : ℕ) → IsTrue (are_stored limits) → p < (row_slots limits).count → width ≡ limits.files / 8 → first ≡ descriptions_start limits → blocks ≡ image_blocks limits
+pub row_within : (limits : Limits) (p width first blocks : ℕ) → IsTrue (are_in_range limits) → p < (row_slots limits).count → width ≡ limits.files / 8 → first ≡ descriptions_start limits → blocks ≡ image_blocks limits
     → first + p / (4096 / width) < blocks
 row_within limits p width first blocks range lt is_width is_first is_blocks =
     let rows = (limits.props * limits.files + 32767) / 32768 in

@@ -3,7 +3,7 @@ use Rattle.std.proofs.Common.{◌≢◌, filter, slice_index_or}
 use Rattle.std.specs.List.{range_with_len}
 use Rattle.lis_fields.specs.Layouts.{set_bytes}
 use Rattle.lis_kept.specs.Areas.{set_slots}
-use Rattle.lis_open.proofs.Common.{rules, ◌≡◌, refl, sym, ap, ap₂, ◌∙◌, subst, inl, inr, ℕ, ◌+◌, ◌/◌, ◌≤◌, ◌<◌, nat_lt, Bool, true, false, cond, List, [], ◌++◌, map, take, replicate, Option, Some, None, IsTrue, IsSomeAnd, arith, fold, flat_map, Contains, ◌⊎◌, ◌*◌, length, Result, Ok, Err, insert_key, list_all, part, bits_bytes, block, Keeps, Slots, slot, marked, are_distinct, is_large, index_bytes, numbers_in, index_home, FileRecord, SpellsSuper, prop_bytes, is_prop, axiom_bytes, is_axiom, file_bytes, is_file, FreeFile, PropSlot, Limits, bitmap_start, data_start, image_blocks, are_stored, State, file_cmp, blocks_needed, property_slots, axiom_slots, file_slots, row_slots, bytes_told, blocks_told, HasIndex, Contents, AreSlots, all_records, spelled_state, is_had_by, word_at, row_bit, replayed, File, file_of_record, same_Some, Meaning, IsSettled, Leaves, Held, Fits, Spot, Super, BadRecord, Tells, Stored, IsSound, contents_of, leaves_weaken, leaves_then, IsWritten, ⊎_map, leb-true, le-leb, and_parts, and_from, nat_le}
+use Rattle.lis_open.proofs.Common.{rules, ◌≡◌, refl, sym, ap, ap₂, ◌∙◌, subst, inl, inr, ℕ, ◌+◌, ◌/◌, ◌≤◌, ◌<◌, nat_lt, Bool, true, false, cond, List, [], ◌++◌, map, take, replicate, Option, Some, None, IsTrue, IsSomeAnd, arith, fold, flat_map, Contains, ◌⊎◌, ◌*◌, length, Result, Ok, Err, insert_key, list_all, part, bits_bytes, block, Keeps, Slots, slot, marked, are_distinct, is_large, index_bytes, numbers_in, index_home, FileRecord, SpellsSuper, prop_bytes, is_prop, axiom_bytes, is_axiom, file_bytes, is_file, FreeFile, PropSlot, Limits, bitmap_start, data_start, image_blocks, are_in_range, State, file_cmp, blocks_needed, property_slots, axiom_slots, file_slots, row_slots, bytes_told, blocks_told, HasIndex, Contents, AreSlots, all_records, spelled_state, is_had_by, word_at, row_bit, replayed, File, file_of_record, same_Some, Meaning, IsSettled, Leaves, Held, Fits, Spot, Super, BadRecord, Tells, Stored, IsSound, contents_of, leaves_weaken, leaves_then, IsWritten, ⊎_map, leb-true, le-leb, and_parts, and_from, nat_le}
 use Rattle.std.proofs.Math.Path.{fun_ext}
 use Rattle.lis_journal.specs.Images.{StandsFor as KeptBy, KeepsPast}
 use Rattle.lis_journal.proofs.Fitting.{replayed-front}
@@ -117,7 +117,7 @@ module _ (limits : Limits) (at there : ℕ → List ℕ) (same : (n : ℕ) → p
           ∙ ap (λ f. set_bytes (filter (λ p. is_had_by s f (word_at contents.properties p) (slice_index_or contents.files i FreeFile)) (range_with_len 0 limits.props))) (same_files contents.properties))
 
 -- ---- images represent a state
-pub kept_stands : (s : State) (contents : Contents) (at : ℕ → List ℕ) (image : List ℕ) → IsTrue (are_stored s.limits) → SpellsSuper s.limits (at 0) → Spells s.limits contents at s
+pub kept_stands : (s : State) (contents : Contents) (at : ℕ → List ℕ) (image : List ℕ) → IsTrue (are_in_range s.limits) → SpellsSuper s.limits (at 0) → Spells s.limits contents at s
     → KeptBy (image_layout s.limits) at image → Stands image s
 unfolding KeptBy Stands
 kept_stands s contents at image range super spells keeps = by (replayed (image_layout s.limits) image) refl keeps.1
@@ -182,7 +182,7 @@ pub failed_opened : (old new : Meaning) → Opened old new (Err DiskFault)
 failed_opened old new = unspotted old new DiskFault tt tt (λ spot fault. cc)
 
 -- ---- the super block, as it was read
-pub old_enough : (limits : Limits) → IsTrue (are_in_range limits) → limits.version ≤ 2 → IsTrue (are_stored limits)
+pub old_enough : (limits : Limits) → IsTrue (are_in_range limits) → limits.version ≤ 2 → IsTrue (are_in_range limits)
 old_enough limits range old = and_from (are_in_range limits) (nat_le limits.version 2) range (le-leb limits.version 2 old)
 
 pub super_read : (image read : List ℕ) (limits : Limits) → read ≡ part 0 4096 image → IsTrue (are_in_range limits) × SpellsSuper limits read → limits.version ≤ 2 → HasSuper limits image
@@ -378,7 +378,7 @@ module _ (old : Meaning) (limits : Limits) (super : HasSuper limits old.bytes) (
       told_stand store s sound tells written same =
           let limits_are : limits ≡ s.limits = sym same ∙ ap (λ (t : State). t.limits) tells.state in
           record {
-            range = subst (λ (l : Limits). IsTrue (are_stored l)) limits_are super.range;
+            range = subst (λ (l : Limits). IsTrue (are_in_range l)) limits_are super.range;
             super = subst (λ (l : Limits). SpellsSuper l (part 0 4096 old.bytes)) limits_are super.spelled;
             long = omega (arith, whole, long, ap image_blocks limits_are);
             replay = r;
@@ -392,7 +392,7 @@ module _ (old : Meaning) (limits : Limits) (super : HasSuper limits old.bytes) (
       told_limits store s sound tells =
           let told : store.metadata.limits ≡ s.limits = ap (λ (t : State). t.limits) tells.state in
           told
-          ∙ one_limits r s.limits limits (record { range = subst (λ (l : Limits). IsTrue (are_stored l)) told sound.metadata.range; spelled = tells.super }) (record { range = super.range; spelled = super_kept })
+          ∙ one_limits r s.limits limits (record { range = subst (λ (l : Limits). IsTrue (are_in_range l)) told sound.metadata.range; spelled = tells.super }) (record { range = super.range; spelled = super_kept })
 
       parts_opened : (result : Result Stored OpenFault) → ((store : Stored) → result ≡ Ok store → IsOpened journal store) → StoreEnded limits kept result → Opened old new result
       parts_opened (Ok store) opened ended =

@@ -15,7 +15,7 @@ use Rattle.lis_kept.proofs.Formed.{record_parts}
 use Rattle.lis_kept.specs.Metadata.{record_at}
 use Rattle.lis_laws.proofs.Counts.{all_weaker}
 use Rattle.lis_model.specs.State.{blocks_needed, blocks_taken}
-use Rattle.lis_model.specs.Ranges.{are_stored}
+use Rattle.lis_model.specs.Ranges.{are_in_range}
 use Rattle.lis_model.proofs.Stored.{stored_parts, stored_records, stored_descriptions}
 use Rattle.lis_kept.specs.Areas.{Area, held_in}
 use Rattle.lis_kept.specs.Areas.Area.{Properties, Axioms, Files, Rows, Bitmap}
@@ -54,7 +54,7 @@ pub state_own : (s : State) → s.limits.version ≡ 1 → state_in 1 s ≡ s
 state_own s one = ap (λ version. state_in version s) (sym one)
 
 -- an image that is not of version 2 is of version 1
-pub first_version : (limits : Limits) → IsTrue (are_stored limits) → (limits.version ≡ 2 → ⊥) → limits.version ≡ 1
+pub first_version : (limits : Limits) → IsTrue (are_in_range limits) → (limits.version ≡ 2 → ⊥) → limits.version ≡ 1
 first_version limits range none = elim ((stored_parts limits range).version) [ inl one ↦ one | inr two ↦ absurd (none two) ]
 
 -- ---- the state, which has no large file
@@ -83,7 +83,7 @@ formed_upgraded s one formed =
     assumption (upgraded_in_range s.limits one formed.limits, longer s.files short, few)
 
 -- ---- the parts of an image are where they were
-module _ (version : ℕ) (limits : Limits) (range : IsTrue (are_stored limits)) (later : IsTrue (are_stored (with_version version limits))) where
+module _ (version : ℕ) (limits : Limits) (range : IsTrue (are_in_range limits)) (later : IsTrue (are_in_range (with_version version limits))) where
   records_stay : record_blocks (with_version version limits) ≡ record_blocks limits
   records_stay = stored_records (with_version version limits) later ∙ sym (stored_records limits range)
 
@@ -120,7 +120,7 @@ record_upgraded limits dict blocks rec one sound =
 pub sound_upgraded : (k : Metadata) → k.limits.version ≡ 1 → AreSound k → AreSound (metadata_in 2 k)
 sound_upgraded k one sound = assumption (later, axioms, records, marks)
   where
-    later : IsTrue (are_stored (with_version 2 k.limits))
+    later : IsTrue (are_in_range (with_version 2 k.limits))
     later = upgraded_stored k.limits sound.range
 
     marks : data_start (with_version 2 k.limits) ≤ length k.marks
@@ -133,7 +133,7 @@ sound_upgraded k one sound = assumption (later, axioms, records, marks)
     records slot rec is = record_upgraded k.limits k.dict k.limits.blocks rec one (sound.records slot rec is)
 
 -- ---- what memory represents and has written, if all home blocks are the same and the super block has the version
-module _ (version : ℕ) (k : Metadata) (at there : ℕ → List ℕ) (sound : AreSound k) (one : k.limits.version ≡ 1) (later : IsTrue (are_stored (with_version version k.limits))) (same : (n : ℕ) → properties_start k.limits ≤ n → there n ≡ at n) where
+module _ (version : ℕ) (k : Metadata) (at there : ℕ → List ℕ) (sound : AreSound k) (one : k.limits.version ≡ 1) (later : IsTrue (are_in_range (with_version version k.limits))) (same : (n : ℕ) → properties_start k.limits ≤ n → there n ≡ at n) where
   abbrev limits : Limits
   limits = k.limits
 

@@ -1,6 +1,6 @@
 -- All of an empty image except its first byte, and the image with it.
 use Rattle.std.proofs.Common.{slice_index, OnErr, take-take, take-add}
-use Rattle.lis_open.proofs.Common.{rules, ◌≡◌, ℕ, ◌+◌, ◌-◌, ◌≤◌, List, take, drop, sym, ◌∙◌, ap, arith, ◌*◌, ◌<◌, length, replicate, IsTrue, refl, ◌⊎◌, [], ◌∷◌, inl, inr, ◌==◌, ◌++◌, ap₂, subst, length-drop, OnOk, Result, Ok, Err, drop-drop, ⊎_elim, Torn, Meaning, DiskFaultEnds, block, Spreads, cases_eq, part, Always, IsSettled, part-put, Leaves, part-torn, SpellsSuper, Limits, data_start, image_blocks, are_stored, put, always_settled, leaves_weaken, Stands, ⊎_map}
+use Rattle.lis_open.proofs.Common.{rules, ◌≡◌, ℕ, ◌+◌, ◌-◌, ◌≤◌, List, take, drop, sym, ◌∙◌, ap, arith, ◌*◌, ◌<◌, length, replicate, IsTrue, refl, ◌⊎◌, [], ◌∷◌, inl, inr, ◌==◌, ◌++◌, ap₂, subst, length-drop, OnOk, Result, Ok, Err, drop-drop, ⊎_elim, Torn, Meaning, DiskFaultEnds, block, Spreads, cases_eq, part, Always, IsSettled, part-put, Leaves, part-torn, SpellsSuper, Limits, data_start, image_blocks, are_in_range, put, always_settled, leaves_weaken, Stands, ⊎_map}
 use Rattle.std.proofs.lemmas.Bool.{eqb-false}
 use Rattle.lis_ports.specs.Runs.{IsDiskRun}
 use Rattle.lis_ports.specs.Calls.{Elapses, IsTorn, IsWritten}
@@ -137,7 +137,7 @@ wiped_super limits image is first =
     let some : 1 ≤ length image = omega (arith, is.blank.long) in
     take-add 1 4095 (drop 0 image) ∙ (ap₂ (λ xs ys. xs ++ ys) (first_is image 76 some first) is.rest ∙ whole_super limits)
 
-pub wiped_stands : (limits : Limits) (image : List ℕ) → IsTrue (are_stored limits) → IsWiped limits image → first_byte image ≡ 76 → Stands image (empty_state limits)
+pub wiped_stands : (limits : Limits) (image : List ℕ) → IsTrue (are_in_range limits) → IsWiped limits image → first_byte image ≡ 76 → Stands image (empty_state limits)
 wiped_stands limits image range is first =
     let blocks = data_start limits in
     let room : blocks ≤ blocks = omega arith in
@@ -156,7 +156,7 @@ pub wiping_moments : {old new : Meaning} (limits : Limits) (bytes : List ℕ) �
 wiping_moments limits bytes all spreads =
     leaves_spread (IsWiping limits) (IsMaking limits bytes) all spreads (λ from image none wiping. inr (inr (λ s. no_state image s (λ is. none (ap (λ xs. slice_index xs 0) (sym wiping.first) ∙ is)))))
 
-pub naming_moments : {old new : Meaning} (limits : Limits) (bytes : List ℕ) → IsTrue (are_stored limits) → Always old (IsWiped limits) → Spreads old new (Torn 0 1) → Leaves old new (IsMaking limits bytes)
+pub naming_moments : {old new : Meaning} (limits : Limits) (bytes : List ℕ) → IsTrue (are_in_range limits) → Always old (IsWiped limits) → Spreads old new (Torn 0 1) → Leaves old new (IsMaking limits bytes)
 naming_moments limits bytes range all spreads =
     leaves_spread (Torn 0 1) (IsMaking limits bytes) all spreads (λ from image is torn.
     inr (⊎_map (wiped_stands limits image range (wiped_torn limits from image is torn)) (λ none s. no_state image s none) (cases_eq (first_byte image) 76)))
@@ -167,7 +167,7 @@ wiped_named limits bytes is =
     let some : 1 ≤ length bytes = omega (arith, is.blank.long) in
     (wiped_torn limits bytes (put bytes 0 (76 ∷ [])) is (torn-put bytes 0 (76 ∷ []) some), first-put bytes 76 some)
 
-pub named_stands : {old new : Meaning} (limits : Limits) → IsTrue (are_stored limits) → Always old (IsWiped limits) → IsSettled new (put old.bytes 0 (76 ∷ [])) → Always new (λ image. Stands image (empty_state limits))
+pub named_stands : {old new : Meaning} (limits : Limits) → IsTrue (are_in_range limits) → Always old (IsWiped limits) → IsSettled new (put old.bytes 0 (76 ∷ [])) → Always new (λ image. Stands image (empty_state limits))
 named_stands {old} limits range all settled =
     let named = wiped_named limits old.bytes all.reads in
     always_settled (λ image. Stands image (empty_state limits)) (put old.bytes 0 (76 ∷ [])) settled

@@ -13,7 +13,7 @@ use Rattle.lis_fields.specs.Layouts.{SpellsSuper}
 use Rattle.lis_model.specs.declared.limits.Limits.{Limits}
 use Rattle.lis_model.specs.declared.spot.Spot.TheVariants.{BadRecord}
 use Rattle.lis_model.specs.Image.{image_blocks}
-use Rattle.lis_model.specs.Ranges.{are_stored}
+use Rattle.lis_model.specs.Ranges.{are_in_range}
 use Rattle.lis_model.specs.State.{State}
 use Rattle.lis_store.specs.Stands.{Stands}
 use Rattle.lis_store.specs.Stored.{Stored, StoreFits}
@@ -31,7 +31,7 @@ HasOpenCause before now (Err NoMemory) = now ≡ before
 
 -- the image begins with a super block of these limits
 pub record HasSuper (limits : Limits) (image : List ℕ) : Type 0 where
-  pub range : IsTrue (are_stored limits)
+  pub range : IsTrue (are_in_range limits)
   pub spelled : SpellsSuper limits (part 0 BLOCK_LEN image)
 
 -- how many bytes are needed: those of a super block, or those of the image that it describes

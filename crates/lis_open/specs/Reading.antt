@@ -6,7 +6,7 @@ use Rattle.lis_journal.specs.Journal.{Held, shape_of}
 use Rattle.lis_journal.specs.Images.{JournalIsUsable}
 use Rattle.lis_slots.specs.Slots.{Slots}
 use Rattle.lis_model.specs.declared.limits.Limits.{Limits}
-use Rattle.lis_model.specs.Ranges.{are_stored}
+use Rattle.lis_model.specs.Ranges.{are_in_range}
 use Rattle.lis_model.specs.declared.spot.Spot.{Spot}
 use Rattle.lis_store.specs.Stored.{Stored}
 use Rattle.lis_open.specs.declared.mounting.OpenFault.{OpenFault}
@@ -18,7 +18,7 @@ use Rattle.lis_kept.specs.Image.{image_shape}
 
 -- An image may be read: its limits are in range, and its journal is as long as they say, has nothing staged and may be used on this disk.
 pub record IsReadable (limits : Limits) (journal : Held) (m : Meaning) : Type 0 where
-  pub range : IsTrue (are_stored limits)
+  pub range : IsTrue (are_in_range limits)
   pub image : shape_of journal ≡ image_shape limits
   pub clean : journal.staged ≡ []
   pub usable : JournalIsUsable journal m

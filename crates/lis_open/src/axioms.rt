@@ -7,7 +7,7 @@ ghost use Rattle.lis_journal.specs.Images.{Fits};
 ghost use Rattle.lis_dict.specs.Dict.{word_of};
 ghost use Rattle.lis_taxonomy.specs.Taxonomy.{empty_taxonomy};
 ghost use Rattle.lis_fields.specs.Layouts.{axiom_bytes, is_axiom};
-ghost use Rattle.lis_model.specs.Ranges.{are_stored};
+ghost use Rattle.lis_model.specs.Ranges.{are_in_range};
 ghost use Rattle.lis_kept.specs.Areas.{axiom_slots};
 ghost use Rattle.lis_open.specs.Reading.{Recalls, IsReadAs, Ends, ReadsPart, IsReadable};
 ghost use Rattle.lis_open.specs.ReadWords.{AreNoAxioms, AreWords, AreFirstWords, WordsAreSpelled, head_by, LinksHeads, LinksTests, are_sides, TakesPair, TakesAxiom, RefusesPair, RefusesAxiom, AreFirstAxioms, AxiomsAreSpelled};
@@ -42,7 +42,7 @@ impl Axioms {
 
 // How many axiom slots there are, in whole blocks.
 fn slot_count(limits: &Limits) -> u32
-    requires { IsTrue (are_stored limits.now) }
+    requires { IsTrue (are_in_range limits.now) }
     ensures { result ≡ (axiom_slots limits.now).count }
 {
     let each = AXIOMS_PER_BLOCK as u32;
@@ -51,7 +51,7 @@ fn slot_count(limits: &Limits) -> u32
 
 /// No axioms yet, and no links.
 pub fn no_axioms(alloc: Global, limits: &Limits) -> Result<Axioms, AllocError>
-    requires { IsTrue (are_stored limits.now) }
+    requires { IsTrue (are_in_range limits.now) }
     ensures { IfOk result (AreNoAxioms limits.now) }
 {
     Ok(Axioms {
@@ -71,7 +71,7 @@ pub fn head_number(words: &Words, number: u32) -> Option<u32>
 
 // Links each valued word to its head, if the head has a number.
 fn link_heads(limits: &Limits, words: &Words, taxonomy: &mut Taxonomy)
-    requires range { IsTrue (are_stored limits.now) }
+    requires range { IsTrue (are_in_range limits.now) }
     requires words { AreFirstWords limits.now words.now limits.now.props }
     requires none { taxonomy.old ≡ empty_taxonomy limits.now.props }
     ensures { LinksHeads words.now limits.now.props taxonomy.new }
@@ -83,7 +83,7 @@ fn link_heads(limits: &Limits, words: &Words, taxonomy: &mut Taxonomy)
 
 // Links each declared test to the next weaker one.
 fn link_tests(limits: &Limits, words: &Words, taxonomy: &mut Taxonomy)
-    requires range { IsTrue (are_stored limits.now) }
+    requires range { IsTrue (are_in_range limits.now) }
     requires words { AreFirstWords limits.now words.now limits.now.props }
     requires heads { LinksHeads words.now limits.now.props taxonomy.old }
     ensures { LinksTests words.now taxonomy.old taxonomy.new }

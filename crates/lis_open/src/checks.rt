@@ -9,7 +9,7 @@ ghost use Rattle.lis_blockmap.specs.Bitmap.{is_taken, bitmap_bytes, IsFirstDiffe
 ghost use Rattle.lis_dict.specs.Dict.{word_of};
 ghost use Rattle.lis_ext.specs.Ext.{has};
 ghost use Rattle.lis_fields.specs.declared.slots.AxiomSlot.TheVariants.{Pair};
-ghost use Rattle.lis_model.specs.Ranges.{are_stored};
+ghost use Rattle.lis_model.specs.Ranges.{are_in_range};
 ghost use Rattle.lis_model.specs.Image.{bitmap_start, bitmap_blocks};
 ghost use Rattle.lis_kept.specs.Areas.{axiom_slots, row_slots};
 ghost use Rattle.lis_kept.specs.Rows.{row_bytes};
@@ -101,7 +101,7 @@ pub fn check_words(
     files: &Files,
     row: &mut Rows,
 ) -> Result<(), OpenFault>
-    requires range { IsTrue (are_stored limits.now) }
+    requires range { IsTrue (are_in_range limits.now) }
     requires words { AreFirstWords limits.now words.now limits.now.props }
     requires axioms { AreFirstAxioms limits.now words.now axioms.now (axiom_slots limits.now).count }
     requires files { AreFiles limits.now words.now axioms.now files.now }
@@ -163,7 +163,7 @@ pub fn check_bitmap<D: Disk>(
 
 // How many rows there is room for in the part.
 fn row_count(limits: &Limits) -> u32
-    requires { IsTrue (are_stored limits.now) }
+    requires { IsTrue (are_in_range limits.now) }
     ensures { result ≡ (row_slots limits.now).count }
 {
     let per_block = BLOCK_LEN as u32 / (limits.files / 8);
@@ -172,7 +172,7 @@ fn row_count(limits: &Limits) -> u32
 
 // Whether the bytes are those of a number's row. Past the last number a row is zeros.
 fn is_row(ext: &Ext, limits: &Limits, number: u32, bytes: &[u8]) -> bool
-    requires range { IsTrue (are_stored limits.now) }
+    requires range { IsTrue (are_in_range limits.now) }
     requires props { ext.now.props ≡ limits.now.props }
     requires files { length ext.now.sets ≡ limits.now.files }
     requires rest { (n slot : ℕ) → limits.now.props ≤ n → has ext.now n slot ≡ false }

@@ -5,7 +5,7 @@ ghost use Rattle.lis_ports.specs.Bytes.{put, Torn};
 ghost use Rattle.lis_ports.specs.Runs.{Leaves, Always, IsSettled};
 ghost use Rattle.lis_ports.specs.Calls.{UsesDisk};
 ghost use Rattle.lis_journal.specs.Spreads.{Spreads};
-ghost use Rattle.lis_model.specs.Ranges.{are_stored};
+ghost use Rattle.lis_model.specs.Ranges.{are_in_range};
 ghost use Rattle.lis_model.specs.Image.{image_blocks};
 ghost use Rattle.lis_open.specs.Makes.{Same, first_byte, IsNameless, IsSpared, AreZeros, IsWiped, IsWiping, rest_of_super};
 
@@ -86,7 +86,7 @@ fn clear_blocks<D: Disk>(disk: &mut D, first: u32, end: u32) -> Result<(), Faile
 
 // Writes the super block, except its first byte.
 fn write_rest<D: Disk>(disk: &mut D, limits: &Limits) -> Result<(), Failed>
-    requires range { IsTrue (are_stored limits.now) }
+    requires range { IsTrue (are_in_range limits.now) }
     requires long { BLOCK_LEN ≤ (D.meaning disk.old).len }
     ensures disk { UsesDisk (D.meaning disk.old) (D.meaning disk.new) result }
     ensures spreads { IsTrue (D.meaning disk.old).is_honest → Spreads (D.meaning disk.old) (D.meaning disk.new) (Torn 1 (BLOCK_LEN - 1)) }
@@ -101,7 +101,7 @@ fn write_rest<D: Disk>(disk: &mut D, limits: &Limits) -> Result<(), Failed>
 
 /// Writes all of an empty image except its first byte, and syncs: the super block, the gates, and the home blocks before the data blocks.
 pub fn wipe<D: Disk>(disk: &mut D, limits: &Limits) -> Result<(), Failed>
-    requires range { IsTrue (are_stored limits.now) }
+    requires range { IsTrue (are_in_range limits.now) }
     requires long { BLOCK_LEN * image_blocks limits.now ≤ (D.meaning disk.old).len }
     ensures disk { UsesDisk (D.meaning disk.old) (D.meaning disk.new) result }
     ensures spreads { IsTrue (D.meaning disk.old).is_honest

@@ -14,7 +14,7 @@ ghost use Rattle.lis_ext.specs.Numbers.{numbers_where};
 ghost use Rattle.lis_fields.specs.Layouts.{file_bytes, is_file, is_record};
 ghost use Rattle.lis_words.specs.Words.{test_of};
 ghost use Rattle.lis_model.specs.Tests.{is_met, met_tests};
-ghost use Rattle.lis_model.specs.Ranges.{are_stored};
+ghost use Rattle.lis_model.specs.Ranges.{are_in_range};
 ghost use Rattle.lis_kept.specs.Areas.{file_slots, axiom_slots};
 ghost use Rattle.lis_kept.specs.Telling.{bit_of};
 ghost use Rattle.lis_open.specs.Reading.{Recalls, IsReadAs, ReadsPart, IsReadable};
@@ -78,7 +78,7 @@ impl FileSlots {
 /// No slot is read yet.
 #[tactic(auto, unfolding(crate::specs::ReadFiles::no_files))]
 pub fn no_files(alloc: Global, limits: &Limits) -> Result<FileSlots, AllocError>
-    requires { IsTrue (are_stored limits.now) }
+    requires { IsTrue (are_in_range limits.now) }
     ensures { IfOk result (λ slots. slots ≡ no_files limits.now) }
 {
     Ok(FileSlots {

@@ -4,7 +4,7 @@ ghost use Rattle.std.specs.Prelude.{◌≡◌, ◌*◌, ◌≤◌, ℕ, IsTrue, 
 ghost use Rattle.lis_ports.specs.Runs.{IsDiskRun, Leaves, Always, IsSettled};
 ghost use Rattle.lis_ports.specs.Calls.{DiskFaultEnds, UsesDisk};
 ghost use Rattle.lis_journal.specs.Record.{block};
-ghost use Rattle.lis_model.specs.Ranges.{are_stored};
+ghost use Rattle.lis_model.specs.Ranges.{are_in_range};
 ghost use Rattle.lis_model.specs.Image.{image_blocks};
 ghost use Rattle.lis_model.specs.State.{empty_state};
 ghost use Rattle.lis_store.specs.Stands.{Stands};
@@ -41,7 +41,7 @@ impl From<Failed> for MakeFault {
 
 // Makes an image on a disk that is long enough.
 fn write_image<D: Disk>(disk: &mut D, limits: &Limits) -> Result<(), Failed>
-    requires range { IsTrue (are_stored limits.now) }
+    requires range { IsTrue (are_in_range limits.now) }
     requires long { BLOCK_LEN * image_blocks limits.now ≤ (D.meaning disk.old).len }
     ensures disk { UsesDisk (D.meaning disk.old) (D.meaning disk.new) result }
     ensures made { OnOk result (IsTrue (D.meaning disk.old).is_honest
@@ -62,7 +62,7 @@ fn write_image<D: Disk>(disk: &mut D, limits: &Limits) -> Result<(), Failed>
 
 /// Makes an image of the empty state. It allocates no memory.
 pub fn make<D: Disk>(disk: &mut D, limits: &Limits) -> Result<(), MakeFault>
-    requires range { IsTrue (are_stored limits.now) }
+    requires range { IsTrue (are_in_range limits.now) }
     ensures run { IsDiskRun (D.meaning disk.old) (D.meaning disk.new) }
 
     // A disk is too short if it has fewer bytes than the image. Then it is left as it was.

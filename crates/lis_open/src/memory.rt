@@ -1,7 +1,7 @@
 //! The memory that opening allocates, all of it before it reads the journal.
 
 ghost use Rattle.std.specs.Prelude.{◌≡◌, IsTrue, IfOk};
-ghost use Rattle.lis_model.specs.Ranges.{are_stored};
+ghost use Rattle.lis_model.specs.Ranges.{are_in_range};
 ghost use Rattle.lis_open.specs.ReadAll.{IsEmptyMemory};
 ghost use Rattle.lis_open.specs.ReadFiles.{no_files};
 ghost use Rattle.lis_open.specs.ReadWords.{no_words, AreNoAxioms};
@@ -62,7 +62,7 @@ struct SlotMemory {
 
 // Allocates the memory for the slots. Nothing is read yet.
 fn take_slot_memory(alloc: Global, limits: &Limits) -> Result<SlotMemory, AllocError>
-    requires { IsTrue (are_stored limits.now) }
+    requires { IsTrue (are_in_range limits.now) }
     ensures words { IfOk result (λ slots. slots.words ≡ no_words limits.now) }
     ensures axioms { IfOk result (λ slots. AreNoAxioms limits.now slots.axioms) }
     ensures files { IfOk result (λ slots. slots.files ≡ no_files limits.now) }
@@ -77,7 +77,7 @@ fn take_slot_memory(alloc: Global, limits: &Limits) -> Result<SlotMemory, AllocE
 /// Allocates the memory. The fields with most parts come last: each field is freed wherever a later allocation fails, which takes long to
 /// check. Nothing is read yet.
 pub fn take_memory(alloc: Global, limits: &Limits) -> Result<OpeningMemory, AllocError>
-    requires { IsTrue (are_stored limits.now) }
+    requires { IsTrue (are_in_range limits.now) }
     ensures { IfOk result (IsEmptyMemory limits.now) }
 {
     let row = Rows::new(alloc, 1, limits.props)?;

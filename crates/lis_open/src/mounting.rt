@@ -6,7 +6,7 @@ ghost use Rattle.lis_ports.specs.Runs.{IsDiskRun, Leaves};
 ghost use Rattle.lis_journal.specs.Images.{KeepsPast};
 ghost use Rattle.lis_journal.specs.Record.{has_open};
 ghost use Rattle.lis_journal.specs.Recovery.{IsSettledPast};
-ghost use Rattle.lis_model.specs.Ranges.{are_stored};
+ghost use Rattle.lis_model.specs.Ranges.{are_in_range};
 ghost use Rattle.lis_model.specs.declared.limits.Limits.{Limits as LimitsOf};
 ghost use Rattle.lis_model.specs.Image.{image_blocks};
 ghost use Rattle.lis_model.specs.State.{State};
@@ -91,7 +91,7 @@ fn read_limits<D: Disk>(disk: &mut D) -> Result<Limits, OpenFault>
     ensures small { (D.meaning disk.old).len < BLOCK_LEN
         → (result ≡ Err (TooShort (D.meaning disk.old).len BLOCK_LEN)) × (disk.new ≡ disk.old) }
     ensures numbers { (len need : ℕ) → result ≡ Err (TooShort len need) → (len ≡ (D.meaning disk.old).len) × (len < need) }
-    ensures range { IfOk result (λ limits. IsTrue (are_stored limits)) }
+    ensures range { IfOk result (λ limits. IsTrue (are_in_range limits)) }
     ensures long { IfOk result (λ limits. BLOCK_LEN * image_blocks limits ≤ (D.meaning disk.new).len) }
     ensures ended { IsTrue (D.meaning disk.old).is_honest → LimitsRead (D.meaning disk.old) (D.meaning disk.new) result }
 {
@@ -116,7 +116,7 @@ fn read_limits<D: Disk>(disk: &mut D) -> Result<Limits, OpenFault>
 
 // Opens the image that follows a super block of these limits.
 fn mount_image<D: Disk>(alloc: Global, disk: &mut D, limits: Limits) -> Result<Store, OpenFault>
-    requires range { IsTrue (are_stored limits) }
+    requires range { IsTrue (are_in_range limits) }
     requires long { BLOCK_LEN * image_blocks limits ≤ (D.meaning disk.old).len }
     requires begins { IsTrue (D.meaning disk.old).is_honest → HasSuper limits (D.meaning disk.old).bytes }
     ensures run { IsDiskRun (D.meaning disk.old) (D.meaning disk.new) }

@@ -4,7 +4,7 @@ ghost use Rattle.std.specs.Prelude.{◌≡◌, ◌<◌, ℕ, List, None, length,
 ghost use Rattle.lis_ports.specs.Calls.{ReadsDisk};
 ghost use Rattle.lis_journal.specs.Images.{Fits};
 ghost use Rattle.lis_fields.specs.Layouts.{prop_bytes, is_prop};
-ghost use Rattle.lis_model.specs.Ranges.{are_stored};
+ghost use Rattle.lis_model.specs.Ranges.{are_in_range};
 ghost use Rattle.lis_kept.specs.Areas.{property_slots};
 ghost use Rattle.lis_open.specs.Reading.{Recalls, IsReadAs, ReadsPart, IsReadable};
 ghost use Rattle.lis_open.specs.ReadWords.{no_words, with_property, AreFirstSlots, SlotsEnded, AreFirstWords, WordsEnded};
@@ -51,7 +51,7 @@ impl WordSlots {
 /// No slot is read yet.
 #[tactic(auto, unfolding(crate::specs::ReadWords::no_words))]
 pub fn no_words(alloc: Global, limits: &Limits) -> Result<WordSlots, AllocError>
-    requires { IsTrue (are_stored limits.now) }
+    requires { IsTrue (are_in_range limits.now) }
     ensures { IfOk result (λ slots. slots ≡ no_words limits.now) }
 {
     Ok(WordSlots {

@@ -1,7 +1,7 @@
 //! The memory in which parts of files are viewed and put back.
 
 ghost use Rattle.std.specs.Prelude.{◌≡◌, IsTrue, IfOk};
-ghost use Rattle.lis_model.specs.Ranges.{are_stored};
+ghost use Rattle.lis_model.specs.Ranges.{are_in_range};
 
 use crate::gathering::Edited;
 use lis_eval::Scratch;
@@ -37,7 +37,7 @@ impl Model for Workspace {
 impl Workspace {
     /// Memory for files of a state of these limits. No call that gets it allocates more.
     pub fn new(alloc: Global, limits: &Limits) -> Result<Workspace, AllocError>
-        requires { IsTrue (are_stored limits.now) }
+        requires { IsTrue (are_in_range limits.now) }
         ensures { IfOk result (λ workspace. workspace ≡ limits.now) }
     {
         let scratch = Scratch::new(alloc, limits)?;

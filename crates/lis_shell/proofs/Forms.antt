@@ -4,7 +4,7 @@ use Rattle.std.specs.Option.{option_map, option_and_then}
 use Rattle.std.proofs.lemmas.Bool.{and_parts, and_from}
 use Rattle.lis_words.specs.Words.{same_word, is_count, count_of, is_file_name}
 use Rattle.lis_model.specs.declared.limits.Limits.{Limits}
-use Rattle.lis_model.specs.Ranges.{is_files_limit, is_props_limit, is_blocks_limit, is_version, are_in_range, are_stored}
+use Rattle.lis_model.specs.Ranges.{is_files_limit, is_props_limit, is_blocks_limit, is_version, are_in_range}
 use Rattle.lis_shell.specs.declared.words.Task.{Task}
 use Rattle.lis_shell.specs.declared.words.Task.TheVariants.{Try, Make, Upgrade, OnImage}
 use Rattle.lis_shell.specs.declared.words.ImageTask.{ImageTask}
@@ -43,7 +43,7 @@ IsAskedOf words (Some Put) = NamesPart words
 IsAskedOf words work = Unit {0}
 
 abbrev IsAsked : List (List ℕ) → Option Task → Type 0
-IsAsked words (Some (Make limits)) = IsTrue (are_stored limits)
+IsAsked words (Some (Make limits)) = IsTrue (are_in_range limits)
 IsAsked words (Some (OnImage work)) = IsAskedOf words (Some work)
 IsAsked words task = Unit {0}
 
@@ -56,7 +56,7 @@ module _ {A : Type 0} (P : Option A → Type 0) where
   mapped task each none (Some b) = each b
   mapped task each none None = none
 
-made : (words : List (List ℕ)) (found : Option Limits) → ((limits : Limits) → found ≡ Some limits → IsTrue (are_stored limits)) → IsAsked words (option_map Make found)
+made : (words : List (List ℕ)) (found : Option Limits) → ((limits : Limits) → found ≡ Some limits → IsTrue (are_in_range limits)) → IsAsked words (option_map Make found)
 made words (Some limits) range = range limits refl
 made words None range = tt
 
@@ -80,21 +80,21 @@ limits_are (files ∷ props ∷ blocks ∷ last ∷ []) limits e = versions_are 
 limits_are words limits e = absurd (cc)
 
 -- those of an image are so by their definition
-stored : (words : List (List ℕ)) (limits : Limits) → stored_in words ≡ Some limits → IsTrue (are_stored limits)
+stored : (words : List (List ℕ)) (limits : Limits) → stored_in words ≡ Some limits → IsTrue (are_in_range limits)
 stored words limits e = by (limits_in words) e
   where
-    within : (all : Limits) (t : Bool) → are_stored all ≡ t → cond t (Some all) None ≡ Some limits → IsTrue (are_stored limits)
-    within all true is e = subst (λ l. IsTrue (are_stored l)) (held true all limits e).1 is
+    within : (all : Limits) (t : Bool) → are_in_range all ≡ t → cond t (Some all) None ≡ Some limits → IsTrue (are_in_range limits)
+    within all true is e = subst (λ l. IsTrue (are_in_range l)) (held true all limits e).1 is
     within all false is e = absurd (cc)
 
-    by : (found : Option Limits) → option_and_then (λ all. if are_stored all then Some all else None) found ≡ Some limits → IsTrue (are_stored limits)
-    by (Some all) e = within all (are_stored all) refl e
+    by : (found : Option Limits) → option_and_then (λ all. if are_in_range all then Some all else None) found ≡ Some limits → IsTrue (are_in_range limits)
+    by (Some all) e = within all (are_in_range all) refl e
     by None e = absurd (cc)
 
 -- they are the limits of version 1 or 2
 pub stored_is : (words : List (List ℕ)) (limits : Limits) → limits_in words ≡ Some limits → stored_in words ≡ (if nat_le limits.version 2 then Some limits else None)
 stored_is words limits e =
-    ap (λ found. option_and_then (λ all. if are_stored all then Some all else None) found) e
+    ap (λ found. option_and_then (λ all. if are_in_range all then Some all else None) found) e
     ∙ ap (λ t. if t && nat_le limits.version 2 then Some limits else None) (limits_are words limits e)
 
 upgrades : (all words : List (List ℕ)) → IsAsked all (upgrade_alone words)

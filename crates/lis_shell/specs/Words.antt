@@ -2,7 +2,7 @@
 use Rattle.std.specs.Prelude.{ℕ, ◌*◌, nat_lt, not, ◌&&◌, if◌then◌else◌, Option, Some, None, List, [], ◌∷◌, IsTrue, codes, slice_index_or, ◌^◌, ⊤}
 use Rattle.lis_words.specs.Words.{same_word, is_count, count_of, is_file_name}
 use Rattle.lis_model.specs.declared.limits.Limits.{Limits}
-use Rattle.lis_model.specs.Ranges.{is_files_limit, is_props_limit, is_blocks_limit, are_stored}
+use Rattle.lis_model.specs.Ranges.{is_files_limit, is_props_limit, is_blocks_limit, are_in_range}
 use Rattle.lis_model.specs.Image.{image_blocks}
 use Rattle.lis_shell.specs.declared.words.Task.{Task}
 use Rattle.lis_shell.specs.declared.words.Task.TheVariants.{Try, Make, Upgrade, OnImage}
@@ -38,7 +38,7 @@ limits_in (files ∷ props ∷ blocks ∷ last ∷ more ∷ words) = None
 
 -- the same of an image, which is not of version 3
 abbrev pub stored_in : List (List ℕ) → Option Limits
-stored_in words = option_and_then (λ limits. if are_stored limits then Some limits else None) (limits_in words)
+stored_in words = option_and_then (λ limits. if are_in_range limits then Some limits else None) (limits_in words)
 
 -- the words with nothing after their image
 abbrev pub work_alone : List ℕ → Option ImageTask
@@ -84,7 +84,7 @@ task_of (word ∷ second ∷ words) = if same_word word (codes "try") then optio
 -- the limits of an image to be made are in range
 abbrev pub MakesInRange : Task → Type 0
 MakesInRange (Try limits) = ⊤
-MakesInRange (Make limits) = IsTrue (are_stored limits)
+MakesInRange (Make limits) = IsTrue (are_in_range limits)
 MakesInRange Upgrade = ⊤
 MakesInRange (OnImage work) = ⊤
 

@@ -6,7 +6,7 @@ ghost use Rattle.lis_ports.specs.Calls.{StationFaultEnds, FaultEnds};
 ghost use Rattle.lis_line.specs.Tagged.{room_script};
 ghost use Rattle.lis_line.specs.Taking.{TakesFew};
 ghost use Rattle.lis_model.specs.declared.limits.Limits.{Limits as LimitsOf};
-ghost use Rattle.lis_model.specs.Ranges.{are_stored};
+ghost use Rattle.lis_model.specs.Ranges.{are_in_range};
 ghost use Rattle.lis_model.specs.Step.{step};
 ghost use Rattle.lis_model.specs.Script.{script};
 ghost use Rattle.lis_model.specs.State.{State};
@@ -63,7 +63,7 @@ fn try_from_empty<S: Source, T: Station>(
 }
 
 fn make_image<T: Station>(limits: &Limits, station: &mut T) -> Status
-    requires range { IsTrue (are_stored limits.now) }
+    requires range { IsTrue (are_in_range limits.now) }
     ensures keeps { MakeKeeps limits.now (station.new ≡ station.old) (T.meaning station.old) (T.meaning station.new) result }
     ensures cause { (n : ℕ) → HasStatusCause (counts (T.meaning station.old) n) (counts (T.meaning station.new) n) result }
     ensures first_fault { StationFaultEnds (T.meaning station.old) (T.meaning station.new) }

@@ -74,7 +74,7 @@ pub use Rattle.lis_model.specs.Changes.{axiom_added, declared_under, file_added,
 pub use Rattle.lis_model.specs.Derived.{derived_words}
 pub use Rattle.lis_model.specs.Image.{bitmap_start, data_start, image_blocks}
 pub use Rattle.lis_model.specs.Places.{place_words}
-pub use Rattle.lis_model.specs.Ranges.{are_stored}
+pub use Rattle.lis_model.specs.Ranges.{are_in_range}
 pub use Rattle.lis_model.specs.Sets.{set_of, with_word, with_words, are_distinct, has_number}
 pub use Rattle.lis_model.specs.State.{File, State, WellFormed, all_up, blocks_taken, description, file_cmp, file_limit, file_words, heads, is_assignable, known, links, own_words, pair_cmp, up, used_blocks}
 pub use Rattle.lis_model.specs.Step.{Outcome, Payload, Situation, add, add_axiom, assigned_at, changed, exceeds_known, exceeds_words, free_blocks, mkdir, mv, refused, rename, retagged, rm, rmdir, tags_at, words_at, write}

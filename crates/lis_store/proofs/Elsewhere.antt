@@ -1,6 +1,6 @@
 -- Blocks that no file has may hold anything: what memory says of a state and what it has written stay as they are.
 use Rattle.std.proofs.Common.{rules}
-use Rattle.lis_store.proofs.Common.{◌≡◌, refl, ap, inl, inr, ℕ, ◌+◌, ◌<◌, ◌≤◌, true, false, List, length, IsTrue, arith, and_parts, eqb-true, not-true, Among, among_from_contains, contains_from_among, is_taken, has_home, are_free, slot_count, Filed, are_stored, data_start, State, Metadata, IsWritten, IsSaved, AreSound, bytes_told, blocks_told, state_of, HasIndex, Tells, map_all, filed_rec, among_slots, both_ways, false_from_ne_true, among_from_any, all_among, file_told, number_from_among}
+use Rattle.lis_store.proofs.Common.{◌≡◌, refl, ap, inl, inr, ℕ, ◌+◌, ◌<◌, ◌≤◌, true, false, List, length, IsTrue, arith, and_parts, eqb-true, not-true, Among, among_from_contains, contains_from_among, is_taken, has_home, are_free, slot_count, Filed, are_in_range, data_start, State, Metadata, IsWritten, IsSaved, AreSound, bytes_told, blocks_told, state_of, HasIndex, Tells, map_all, filed_rec, among_slots, both_ways, false_from_ne_true, among_from_any, all_among, file_told, number_from_among}
 use Rattle.lis_journal.specs.Images.{IsOutside}
 use Rattle.lis_kept.specs.Image.{image_layout}
 use Rattle.lis_kept.proofs.Contents.{same_file, slot_counted}
@@ -37,7 +37,7 @@ module _ (k : Metadata) (at there : ℕ → List ℕ) (sound : AreSound k) (same
   tells_there s front tells = search (rules, state_there, file_there, among_from_contains, blocks_there, index_there)
 
 -- ---- what is written
-module _ (k : Metadata) (at there : ℕ → List ℕ) (range : IsTrue (are_stored k.limits)) (same : (n : ℕ) → properties_start k.limits ≤ n → n < data_start k.limits → there n ≡ at n) where
+module _ (k : Metadata) (at there : ℕ → List ℕ) (range : IsTrue (are_in_range k.limits)) (same : (n : ℕ) → properties_start k.limits ≤ n → n < data_start k.limits → there n ≡ at n) where
   pub written_there : IsWritten k at → IsWritten k there
   written_there written area n lt = search (rules, among_slots, held_by)
 

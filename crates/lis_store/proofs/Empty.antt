@@ -1,6 +1,6 @@
 -- A blank image has no words and no files: it represents the empty state.
 use Rattle.std.proofs.Common.{rules}
-use Rattle.lis_store.proofs.Common.{◌≡◌, refl, sym, ap, ◌∙◌, ℕ, zero, suc, ◌+◌, ◌-◌, ◌*◌, ◌/◌, ◌<◌, ◌≤◌, ◌≢◌, false, List, [], get_or, take, replicate, slice_get, slice_index, Some, IsTrue, arith, ◌==◌, insert_key, Contains, length-replicate, get_or-replicate, slice_get_within, get_or_from_slice_get, among_from_contains, part, block, is_taken, Dict, IsDict, has, SpellsSuper, AxiomSlot, FreeAxiom, Pair, Limits, are_stored, bitmap_start, data_start, State, pair_cmp, Metadata, IsWritten, axiom_slots, Properties, Axioms, Bitmap, AreSound, Tells, among_slots, list_any, Meaning, both_ways, Files, Rows, true, KeepsInUse, is_linked}
+use Rattle.lis_store.proofs.Common.{◌≡◌, refl, sym, ap, ◌∙◌, ℕ, zero, suc, ◌+◌, ◌-◌, ◌*◌, ◌/◌, ◌<◌, ◌≤◌, ◌≢◌, false, List, [], get_or, take, replicate, slice_get, slice_index, Some, IsTrue, arith, ◌==◌, insert_key, Contains, length-replicate, get_or-replicate, slice_get_within, get_or_from_slice_get, among_from_contains, part, block, is_taken, Dict, IsDict, has, SpellsSuper, AxiomSlot, FreeAxiom, Pair, Limits, are_in_range, bitmap_start, data_start, State, pair_cmp, Metadata, IsWritten, axiom_slots, Properties, Axioms, Bitmap, AreSound, Tells, among_slots, list_any, Meaning, both_ways, Files, Rows, true, KeepsInUse, is_linked}
 use Rattle.std.specs.List.{fold}
 use Rattle.std.proofs.lemmas.List.{drop-replicate, take-replicate, take-take}
 use Rattle.lis_slots.specs.Slots.{Slots, home, place, slot}
@@ -53,7 +53,7 @@ module _ (limits : Limits) (blocks : ℕ) where
   no_set : (n at : ℕ) → has metadata.ext n at ≡ false
   no_set n at = ap (λ ns. has_in ns n) (empty_set at)
 
-  empty_are_sound : IsTrue (are_stored limits) → data_start limits ≤ blocks → AreSound metadata
+  empty_are_sound : IsTrue (are_in_range limits) → data_start limits ≤ blocks → AreSound metadata
   empty_are_sound range room =
       record {
         range = range;
@@ -76,7 +76,7 @@ module _ (limits : Limits) (blocks : ℕ) where
         marks = search (rules, length-replicate);
       }
 
-  pub empty_sound : IsTrue (are_stored limits) → data_start limits ≤ blocks → IsSound (empty_stored limits blocks)
+  pub empty_sound : IsTrue (are_in_range limits) → data_start limits ≤ blocks → IsSound (empty_stored limits blocks)
   empty_sound range room =
       let closed : (slot p q : ℕ) → has metadata.ext p slot ≡ true → is_linked metadata p q ≡ true → has metadata.ext q slot ≡ true =
       λ slot p q had. absurd (both_ways (has metadata.ext p slot) (no_set p slot) had) in
@@ -100,7 +100,7 @@ unfolding bitmap_bytes zeros
 bitmap-none n blocks = sym (bytes_none 4096 (λ k. is_taken (replicate blocks false) (32768 * n + k)) (λ k. none_set blocks (32768 * n + k)))
 
 -- a row ends inside its block
-row_within : (limits : Limits) (k : ℕ) → IsTrue (are_stored limits) → place (row_slots limits) k + (row_slots limits).width ≤ 4096
+row_within : (limits : Limits) (k : ℕ) → IsTrue (are_in_range limits) → place (row_slots limits) k + (row_slots limits).width ≤ 4096
 row_within limits k range = search (rules, each_files_limit, files_range)
 
 no_pairs : (n : ℕ) (dict : Dict) → pairs_told dict (replicate n FreeAxiom) ≡ []
@@ -110,7 +110,7 @@ no_pairs (suc n) dict = no_pairs n dict
 none_contained : {X : Type 0} (x : X) → Contains [] x → ⊥
 none_contained x m = among_from_contains [] x m
 
-module _ (limits : Limits) (blocks : ℕ) (image : List ℕ) (range : IsTrue (are_stored limits)) (blank : IsBlank limits image) where
+module _ (limits : Limits) (blocks : ℕ) (image : List ℕ) (range : IsTrue (are_in_range limits)) (blank : IsBlank limits image) where
   abbrev at : ℕ → List ℕ
   at n = block n image
 
@@ -149,7 +149,7 @@ unfolding Stands super_with
 no_state image s no_name stands = search (rules, take-take)
 
 -- ---- the store of such an image
-pub empty_fits : (m : Meaning) (limits : Limits) (blocks : ℕ) (image : List ℕ) → IsTrue (are_stored limits) → data_start limits ≤ blocks → IsTrue m.is_honest → IsSettled m image
+pub empty_fits : (m : Meaning) (limits : Limits) (blocks : ℕ) (image : List ℕ) → IsTrue (are_in_range limits) → data_start limits ≤ blocks → IsTrue m.is_honest → IsSettled m image
     → SpellsSuper limits (part 0 4096 image) → IsBlank limits image → StoreFits (empty_stored limits blocks) m (empty_state limits)
 empty_fits m limits blocks image range room honest settled super blank =
     record {

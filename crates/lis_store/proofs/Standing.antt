@@ -1,6 +1,6 @@
 -- What home blocks spell is represented by the images with these blocks.
 use Rattle.std.proofs.Common.{rules}
-use Rattle.lis_store.proofs.Common.{◌≡◌, refl, ap, ◌∙◌, subst, ℕ, List, [], Option, Some, None, IsTrue, IsSomeAnd, arith, Meaning, block, replayed, are_free, homes_of, among_homes, SpellsSuper, data_start, State, Metadata, IsWritten, AreSound, FreeSlotsAreEmpty, Tells, Limits, are_stored}
+use Rattle.lis_store.proofs.Common.{◌≡◌, refl, ap, ◌∙◌, subst, ℕ, List, [], Option, Some, None, IsTrue, IsSomeAnd, arith, Meaning, block, replayed, are_free, homes_of, among_homes, SpellsSuper, data_start, State, Metadata, IsWritten, AreSound, FreeSlotsAreEmpty, Tells, Limits, are_in_range}
 use Rattle.lis_ports.specs.Runs.{Always}
 use Rattle.lis_ports.proofs.Always.{always_weaken}
 use Rattle.lis_journal.specs.Images.{IsOutside, KeepsBut, StandsFor as KeptBy, StandsBut}
@@ -23,8 +23,8 @@ module _ (k : Metadata) (at : ℕ → List ℕ) (s : State) (sound : AreSound k)
   limits_are : k.limits ≡ s.limits
   limits_are = ap (λ (t : State). t.limits) tells.state
 
-  range_is : IsTrue (are_stored s.limits)
-  range_is = subst (λ (l : Limits). IsTrue (are_stored l)) limits_are sound.range
+  range_is : IsTrue (are_in_range s.limits)
+  range_is = subst (λ (l : Limits). IsTrue (are_in_range l)) limits_are sound.range
 
   same_replay : (replay : List ℕ) → KeepsBut (image_layout s.limits) placed at replay → AreSameBut k blocks at (λ n. block n replay)
   same_replay replay keeps n out none = keeps.same n (subst (λ (l : Limits). IsOutside (image_layout l) n) limits_are out) (among_homes (data_start k.limits) blocks n ∙ none)

@@ -14,7 +14,7 @@ use Rattle.lis_fields.specs.Layouts.{SpellsSuper}
 use Rattle.lis_model.specs.declared.limits.Limits.{Limits}
 use Rattle.lis_model.specs.Image.{data_start}
 use Rattle.lis_kept.specs.Image.{image_layout}
-use Rattle.lis_model.specs.Ranges.{are_stored}
+use Rattle.lis_model.specs.Ranges.{are_in_range}
 use Rattle.lis_model.specs.State.{State, empty_state}
 use Rattle.lis_model.specs.Changes.{file_of}
 use Rattle.lis_model.specs.Step.{Situation, no_payload, create, add}
@@ -62,12 +62,12 @@ FittingStoresHaveTags m =
 
 -- the metadata of an empty store is well formed
 abbrev pub EmptyStoresAreSound : Type 0
-EmptyStoresAreSound = (limits : Limits) (blocks : ℕ) → IsTrue (are_stored limits) → data_start limits ≤ blocks → IsSound (empty_stored limits blocks)
+EmptyStoresAreSound = (limits : Limits) (blocks : ℕ) → IsTrue (are_in_range limits) → data_start limits ≤ blocks → IsSound (empty_stored limits blocks)
 
 -- A store without words and files fits an honest disk with one image, if this image is a super block and otherwise blank.
 abbrev pub EmptyStoresFit : Meaning → Type 0
 EmptyStoresFit m =
-    (limits : Limits) (blocks : ℕ) (image : List ℕ) → IsTrue (are_stored limits) → data_start limits ≤ blocks → IsTrue m.is_honest → IsSettled m image
+    (limits : Limits) (blocks : ℕ) (image : List ℕ) → IsTrue (are_in_range limits) → data_start limits ≤ blocks → IsTrue m.is_honest → IsSettled m image
     → SpellsSuper limits (part 0 BLOCK_LEN image) → IsBlank limits image → StoreFits (empty_stored limits blocks) m (empty_state limits)
 
 -- While contents are placed in free blocks the image represents the state as before, whatever these blocks hold.

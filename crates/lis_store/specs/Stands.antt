@@ -20,7 +20,7 @@ use Rattle.lis_fields.specs.Layouts.{SpellsSuper, prop_bytes, is_prop, axiom_byt
 use Rattle.lis_words.specs.Words.{has_word}
 use Rattle.lis_model.specs.declared.limits.Limits.{Limits}
 use Rattle.lis_model.specs.Image.{image_blocks}
-use Rattle.lis_model.specs.Ranges.{are_stored}
+use Rattle.lis_model.specs.Ranges.{are_in_range}
 use Rattle.lis_model.specs.Sets.{set_of, are_distinct}
 use Rattle.lis_model.specs.State.{State, File, pair_cmp, file_cmp, known, description, WellFormed}
 use Rattle.lis_kept.specs.Areas.{AreBitmapBlocks, property_slots, axiom_slots, file_slots, row_slots, set_slots}
@@ -151,7 +151,7 @@ pub record Spells (limits : Limits) (contents : Contents) (at : ℕ → List ℕ
 -- The image has a super block with the state's limits, is as long as these say, and has a replayed image that spells the state. What is
 -- past the image does not count.
 pub record StandsFor (image : List ℕ) (s : State) : Type 0 where
-  pub range : IsTrue (are_stored s.limits)
+  pub range : IsTrue (are_in_range s.limits)
   pub super : SpellsSuper s.limits (part 0 BLOCK_LEN image)
   pub long : BLOCK_LEN * image_blocks s.limits ≤ length image
   pub replay : List ℕ

@@ -1,7 +1,7 @@
 //! How a session over an image begins, so that no premise of the headline is empty.
 
 ghost use Rattle.std.specs.Prelude.{◌≡◌, ◌<◌, IsTrue, IfOk, IfSome, Some};
-ghost use Rattle.lis_model.specs.Ranges.{are_stored};
+ghost use Rattle.lis_model.specs.Ranges.{are_in_range};
 ghost use Rattle.lis_trials.specs.Begun.{left_of, IsBegun};
 
 use lis_memdisk::MemStation;
@@ -21,7 +21,7 @@ pub fn empty_image(
     limits: &Limits,
     room: u64,
 ) -> Result<Option<MemStation>, AllocError>
-    requires { IsTrue (are_stored limits.now) }
+    requires { IsTrue (are_in_range limits.now) }
     ensures { IfOk result (λ made. IfSome made (λ station. IsBegun limits.now room station)) }
 {
     let len = image_blocks(limits) as usize * BLOCK_LEN;

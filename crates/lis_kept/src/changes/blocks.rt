@@ -9,7 +9,7 @@ ghost use Rattle.lis_catalog.specs.Catalog.{rec_at};
 ghost use Rattle.lis_content.specs.Large.{is_large, slot_count, file_blocks};
 ghost use Rattle.lis_fields.specs.Records.{FileRecord};
 ghost use Rattle.lis_model.specs.Image.{data_start, image_blocks};
-ghost use Rattle.lis_model.specs.Ranges.{are_stored};
+ghost use Rattle.lis_model.specs.Ranges.{are_in_range};
 ghost use Rattle.lis_model.specs.State.{blocks_taken, file_limit};
 ghost use Rattle.lis_kept.specs.Areas.{bitmap_home};
 ghost use Rattle.lis_kept.specs.Changes.{bitmap_homes, GivesBack, Puts, PutTorn};
@@ -36,7 +36,7 @@ use lis_ports::{Disk, Failed};
 
 // Marks the blocks of the bitmap that have the bits of these data blocks, as far as the image has them.
 fn mark_bits(marks: &mut Flags, limits: &Limits, blocks: &[u32])
-    requires range { IsTrue (are_stored limits.now) }
+    requires range { IsTrue (are_in_range limits.now) }
     requires long { data_start limits.now ≤ length marks.old }
     ensures { marks.new ≡ marked marks.old (bitmap_homes limits.now blocks.now) }
 {
@@ -50,7 +50,7 @@ fn mark_bits(marks: &mut Flags, limits: &Limits, blocks: &[u32])
 
 // Marks the blocks of the bitmap that have the bits of the data blocks with these homes.
 fn mark_homes(marks: &mut Flags, limits: &Limits, homes: &[u32])
-    requires range { IsTrue (are_stored limits.now) }
+    requires range { IsTrue (are_in_range limits.now) }
     requires long { data_start limits.now ≤ length marks.old }
     requires homes { IsTrue (list_all (λ h. nat_le (data_start limits.now) h && nat_lt h (image_blocks limits.now)) homes.now) }
     ensures { marks.new ≡ marked marks.old (mapped (λ h. bitmap_home limits.now (h - data_start limits.now)) homes.now) }
@@ -64,7 +64,7 @@ fn mark_homes(marks: &mut Flags, limits: &Limits, homes: &[u32])
 
 // Frees these blocks, and marks the blocks of the bitmap that have their bits.
 fn free_all(map: &mut BlockMap, marks: &mut Flags, limits: &Limits, blocks: &[u32])
-    requires range { IsTrue (are_stored limits.now) }
+    requires range { IsTrue (are_in_range limits.now) }
     requires long { data_start limits.now ≤ length marks.old }
     ensures given { map.new ≡ given map.old blocks.now }
     ensures marks { marks.new ≡ marked marks.old (bitmap_homes limits.now blocks.now) }
@@ -82,7 +82,7 @@ fn free_large<D: Disk>(
     disk: &mut D,
     laid: Laid,
 ) -> Result<(), Failed>
-    requires range { IsTrue (are_stored limits.now) }
+    requires range { IsTrue (are_in_range limits.now) }
     requires long { data_start limits.now ≤ length marks.old }
     requires few { laid.size ≤ V3_MAX_FILE }
     requires count { length laid.blocks.now ≡ slot_count laid.size }
@@ -113,7 +113,7 @@ fn place_marked<D: Disk>(
     disk: &mut D,
     bytes: &[u8],
 ) -> Result<ArrayVec<u32, 16>, PutFault>
-    requires range { IsTrue (are_stored limits.now) }
+    requires range { IsTrue (are_in_range limits.now) }
     requires long { data_start limits.now ≤ length marks.old }
     requires taken { length map.old ≡ limits.now.blocks }
     requires short { length bytes.now ≤ file_limit limits.now }
@@ -145,7 +145,7 @@ fn stage_marked<D: Disk>(
     disk: &mut D,
     bytes: &[u8],
 ) -> Result<ArrayVec<u32, 16>, PutFault>
-    requires range { IsTrue (are_stored limits.now) }
+    requires range { IsTrue (are_in_range limits.now) }
     requires long { data_start limits.now ≤ length marks.old }
     requires taken { length map.old ≡ limits.now.blocks }
     requires few { length bytes.now ≤ MAX_FILE }

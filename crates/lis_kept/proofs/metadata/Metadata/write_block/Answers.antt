@@ -1,5 +1,5 @@
 use Rattle.std.proofs.Common.{arith, ◌*◌, ◌+◌, ◌-◌, ◌/◌, ◌≤◌}
-use Rattle.lis_kept.proofs.Common.{◌≡◌, ◌<◌, ℕ, true, List, sym, subst, bitmap_start, AxiomSlot, IsTrue, are_stored}
+use Rattle.lis_kept.proofs.Common.{◌≡◌, ◌<◌, ℕ, true, List, sym, subst, bitmap_start, AxiomSlot, IsTrue, are_in_range}
 use Rattle.lis_model.proofs.Stored.{stored_descriptions}
 use Rattle.lis_fields.specs.Layouts.{is_axiom}
 use Rattle.lis_kept.specs.Metadata.{Metadata, axiom_at}
@@ -42,7 +42,7 @@ returns-then-n-rows c =
     (omega (arith, c.if-n-files.false, c.files_start-files.ensures)) (omega (arith, c.if-n-rows.true, c.descriptions_start-rows.ensures)) c.write_files.ensures)
 
 -- the row of the block's first slot
-row_within : (k now : Metadata) (n rows : ℕ) → IsTrue (are_stored k.limits) → k ≡ now → rows ≡ descriptions_start k.limits → rows ≤ n → n < bitmap_start now.limits → n - rows < (k.limits.props * k.limits.files + 32767) / 32768
+row_within : (k now : Metadata) (n rows : ℕ) → IsTrue (are_in_range k.limits) → k ≡ now → rows ≡ descriptions_start k.limits → rows ≤ n → n < bitmap_start now.limits → n - rows < (k.limits.props * k.limits.files + 32767) / 32768
 row_within k now n rows range is from low to =
     let below : n < bitmap_start k.limits = subst (λ (m : Metadata). n < bitmap_start m.limits) (sym is) to in
     omega (arith, below, from, low, stored_descriptions k.limits range)
