@@ -1,6 +1,6 @@
 -- How a `Buffer` keeps its bytes, and what its reads need. No public clause cites this module.
 use Rattle.std.specs.Prelude.{◌≡◌, ℕ, ◌+◌, ◌<◌, ◌≤◌, List, [], length, take, unwrap_or}
-use Rattle.lis_limits.specs.declared.TheConstants.{BLOCK_LEN, MAX_LARGE_FILE}
+use Rattle.lis_limits.specs.declared.TheConstants.{BLOCK_LEN, V3_MAX_FILE}
 use Rattle.lis_region.specs.Region.{Region, get, HasFrame}
 
 -- the bytes of the frame
@@ -14,8 +14,8 @@ kept_bytes region frame size = take size (frame_bytes region frame)
 -- the frame is taken, and has room for the bytes of any file
 pub record IsKept (region : Region ℕ) (frame size : ℕ) : Type 0 where
   pub taken : HasFrame region frame
-  pub wide : length (frame_bytes region frame) ≡ MAX_LARGE_FILE
-  pub within : size ≤ MAX_LARGE_FILE
+  pub wide : length (frame_bytes region frame) ≡ V3_MAX_FILE
+  pub within : size ≤ V3_MAX_FILE
 
 -- a block of the image with this number is whole
 abbrev pub IsWhole : ℕ → ℕ → (ℕ → List ℕ) → ℕ → Type 0

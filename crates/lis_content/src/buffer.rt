@@ -12,7 +12,7 @@ ghost use Rattle.lis_journal.specs.Record.{homes_start};
 
 use crate::large::{Laid, read_content};
 use lis_journal::Journal;
-use lis_limits::{BLOCK_LEN, MAX_LARGE_FILE};
+use lis_limits::{BLOCK_LEN, V3_MAX_FILE};
 use lis_ports::{Disk, Failed};
 use lis_region::{Frame, Region};
 use std::alloc::{AllocError, Global};
@@ -45,7 +45,7 @@ fn read_front<D: Disk>(
     laid: Laid,
 ) -> Result<(), Failed>
     requires short { laid.size ≤ length items.old }
-    requires few { laid.size ≤ MAX_LARGE_FILE }
+    requires few { laid.size ≤ V3_MAX_FILE }
     requires count { length laid.blocks.now ≡ slot_count laid.size }
     requires home { homes_start journal.now.layout ≤ laid.base }
     requires within { IsTrue (are_within laid.base journal.now.layout.blocks laid.blocks.now) }
@@ -139,7 +139,7 @@ impl Buffer {
     pub fn new(alloc: Global) -> Result<Buffer, AllocError>
         ensures { IfOk result (λ buffer. buffer ≡ []) }
     {
-        let mut region = Region::new(alloc, 1, MAX_LARGE_FILE, 0)?;
+        let mut region = Region::new(alloc, 1, V3_MAX_FILE, 0)?;
         let Some(frame) = region.take() else {
             unreachable!()
         };
@@ -153,7 +153,7 @@ impl Buffer {
     /// The bytes that were read last.
     pub fn bytes(&self) -> &[u8]
         ensures bytes { result.now ≡ self.now }
-        ensures few { length result.now ≤ MAX_LARGE_FILE }
+        ensures few { length result.now ≤ V3_MAX_FILE }
     {
         &self.region.items(&self.frame)[..self.size as usize]
     }
@@ -165,7 +165,7 @@ impl Buffer {
         disk: &mut D,
         laid: Laid,
     ) -> Result<(), Failed>
-        requires short { laid.size ≤ MAX_LARGE_FILE }
+        requires short { laid.size ≤ V3_MAX_FILE }
         requires count { length laid.blocks.now ≡ slot_count laid.size }
         requires home { homes_start journal.now.layout ≤ laid.base }
         requires within { IsTrue (are_within laid.base journal.now.layout.blocks laid.blocks.now) }
@@ -184,7 +184,7 @@ impl Buffer {
 
     /// Gives the buffer `size` bytes, whichever they are.
     pub fn resize(&mut self, size: u32)
-        requires { size ≤ MAX_LARGE_FILE }
+        requires { size ≤ V3_MAX_FILE }
         ensures { length self.new ≡ size }
     {
         self.size = size;

@@ -1,12 +1,13 @@
 -- The parts of an image that memory spells, and the blocks that are yet to be written.
-use Rattle.std.specs.Prelude.{◌-◌, ◌≡◌, ℕ, ◌+◌, ◌*◌, ◌/◌, ◌<◌, false, Bool, List, count_by}
+use Rattle.std.specs.Prelude.{◌-◌, ◌≡◌, ℕ, ◌+◌, ◌*◌, ◌/◌, ◌<◌, ◌==◌, false, Bool, if◌then◌else◌, List, count_by}
 use Rattle.lis_limits.specs.declared.TheConstants.{AXIOMS_PER_BLOCK, AXIOM_LEN, BLOCK_BITS, BLOCK_LEN, FILE_LEN, PROP_LEN, SET_LEN}
+use Rattle.lis_ext.specs.Ext.{set_of}
 use Rattle.lis_slots.specs.Slots.{Slots, slot, home}
 use Rattle.lis_blockmap.specs.Bitmap.{is_taken, bitmap_bytes}
 use Rattle.lis_kept.specs.Rows.{row_bytes}
-use Rattle.lis_fields.specs.Layouts.{prop_bytes, axiom_bytes, file_bytes}
+use Rattle.lis_fields.specs.Layouts.{prop_bytes, axiom_bytes, file_bytes, set_bytes}
 use Rattle.lis_model.specs.declared.limits.Limits.{Limits}
-use Rattle.lis_model.specs.Image.{properties_start, axioms_start, files_start, descriptions_start, bitmap_start, bitmap_blocks}
+use Rattle.lis_model.specs.Image.{properties_start, axioms_start, files_start, descriptions_start, description_blocks, bitmap_start, bitmap_blocks}
 use Rattle.lis_kept.specs.Metadata.{Metadata, property_at, axiom_at, record_at}
 
 pub data Area : Type 0 where
@@ -14,6 +15,7 @@ pub data Area : Type 0 where
   Axioms : Area
   Files : Area
   Rows : Area
+  Sets : Area
   Bitmap : Area
 
 abbrev pub property_slots : Limits → Slots
@@ -26,13 +28,19 @@ axiom_slots limits = record { first = axioms_start limits; count = AXIOMS_PER_BL
 abbrev pub file_slots : Limits → Slots
 file_slots limits = record { first = files_start limits; count = limits.files; width = FILE_LEN }
 
--- rows of whole blocks: those past the last number have no bit
-abbrev pub row_slots : Limits → Slots
-row_slots limits = record { first = descriptions_start limits; count = (BLOCK_LEN / (limits.files / 8)) * ((limits.props * limits.files + (BLOCK_BITS - 1)) / BLOCK_BITS); width = limits.files / 8 }
+-- Versions 1 and 2 have rows, as many as whole blocks have, and no sets. Rows past the last number have no bit.
+unfoldable pub row_count : Limits → ℕ
+row_count limits = if limits.version == 3 then 0 else (BLOCK_LEN / (limits.files / 8)) * description_blocks limits
 
--- the sets of version 3, one for each file slot
+-- version 3 has sets, one for each file slot, and no rows
+unfoldable pub set_count : Limits → ℕ
+set_count limits = if limits.version == 3 then limits.files else 0
+
+abbrev pub row_slots : Limits → Slots
+row_slots limits = record { first = descriptions_start limits; count = row_count limits; width = limits.files / 8 }
+
 abbrev pub set_slots : Limits → Slots
-set_slots limits = record { first = descriptions_start limits; count = limits.files; width = SET_LEN }
+set_slots limits = record { first = descriptions_start limits; count = set_count limits; width = SET_LEN }
 
 abbrev pub bitmap_slots : Limits → Slots
 bitmap_slots limits = record { first = bitmap_start limits; count = bitmap_blocks limits; width = BLOCK_LEN }
@@ -46,11 +54,16 @@ slots_of limits Properties = property_slots limits
 slots_of limits Axioms = axiom_slots limits
 slots_of limits Files = file_slots limits
 slots_of limits Rows = row_slots limits
+slots_of limits Sets = set_slots limits
 slots_of limits Bitmap = bitmap_slots limits
 
 -- the block of a slot
 abbrev pub block_of : Limits → Area → ℕ → ℕ
 block_of limits area n = home (slots_of limits area) n
+
+-- the block that shows whether the file in a slot has a number
+abbrev pub description_home : Limits → ℕ → ℕ → ℕ
+description_home limits slot number = if limits.version == 3 then block_of limits Sets slot else block_of limits Rows number
 
 -- the bytes that memory gives a slot
 abbrev pub spelled : Metadata → Area → ℕ → List ℕ
@@ -58,6 +71,7 @@ spelled k Properties n = prop_bytes (property_at k.dict k.declared n)
 spelled k Axioms n = axiom_bytes (axiom_at k.axioms n)
 spelled k Files n = file_bytes k.limits.version (record_at k.catalog n)
 spelled k Rows n = row_bytes k.ext n
+spelled k Sets n = set_bytes (set_of k.ext n)
 spelled k Bitmap n = bitmap_bytes n k.taken
 
 -- the bytes of a slot, by what each block holds; a slot of the bitmap is a whole block
@@ -66,6 +80,7 @@ held_in limits Properties at n = slot (property_slots limits) at n
 held_in limits Axioms at n = slot (axiom_slots limits) at n
 held_in limits Files at n = slot (file_slots limits) at n
 held_in limits Rows at n = slot (row_slots limits) at n
+held_in limits Sets at n = slot (set_slots limits) at n
 held_in limits Bitmap at n = at (bitmap_start limits + n)
 
 -- each block of the bitmap shows which data blocks are taken

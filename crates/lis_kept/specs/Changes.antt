@@ -21,8 +21,8 @@ use Rattle.lis_model.specs.Image.{bitmap_blocks, data_start}
 use Rattle.lis_model.specs.Sets.{with_word, are_distinct, has_number}
 use Rattle.lis_model.specs.Changes.{declared_under, new_file, file_added, file_removed}
 use Rattle.lis_kept.specs.Metadata.{Metadata}
-use Rattle.lis_kept.specs.Areas.{IsSaved, block_of, bitmap_home, marked_count}
-use Rattle.lis_kept.specs.Areas.Area.{Properties, Files as FileArea, Rows}
+use Rattle.lis_kept.specs.Areas.{IsSaved, block_of, bitmap_home, description_home, marked_count}
+use Rattle.lis_kept.specs.Areas.Area.{Properties, Files as FileArea}
 use Rattle.lis_kept.specs.Telling.{state_of, words_told, bytes_told, blocks_told, is_used, AreUsed}
 
 -- what every change keeps: slots in blocks that are not marked are spelled as before, and at most `most` more blocks are marked
@@ -71,7 +71,7 @@ pub record Forgets (numbers : List ℕ) (p q : Metadata) : Type 0 where
 
 -- ---- descriptions
 -- The file slot has these numbers now. At most as many edits of rows are made as there are numbers that differ, the count of edits does not
--- fall, and exactly the blocks of these rows are marked.
+-- fall, and exactly the blocks are marked that show who has these numbers: in version 3 that of the file's set, and before it those of rows.
 pub record Describes (slot : ℕ) (numbers : List ℕ) (p q : Metadata) : Type 0 where
   pub metadata : q ≡ record p { ext = q.ext; marks = q.marks }
   pub props : q.ext.props ≡ p.ext.props
@@ -79,7 +79,7 @@ pub record Describes (slot : ℕ) (numbers : List ℕ) (p q : Metadata) : Type 0
   pub settled : q.ext.marks ≡ []
   pub edits : (old : List ℕ) → old ≡ set_of p.ext slot → q.ext.edits ≤ p.ext.edits + length (numbers_where p.ext.props (differs old numbers))
   pub no_fewer : p.ext.edits ≤ q.ext.edits
-  pub touched : (old : List ℕ) → old ≡ set_of p.ext slot → q.marks ≡ marked p.marks (map (block_of p.limits Rows) (numbers_where p.ext.props (differs old numbers)))
+  pub touched : (old : List ℕ) → old ≡ set_of p.ext slot → q.marks ≡ marked p.marks (map (description_home p.limits slot) (numbers_where p.ext.props (differs old numbers)))
   pub marks : (old : List ℕ) → old ≡ set_of p.ext slot → Marks (length (numbers_where p.ext.props (differs old numbers))) p q
 
 -- ---- files

@@ -1,6 +1,6 @@
 -- How one block is spelled and staged. No public clause cites this module.
 use Rattle.std.specs.Prelude.{◌≡◌, ◌≢◌, ◌⊎◌, ℕ, ◌+◌, ◌<◌, ◌≤◌, Bool, true, false, List, length, take, count_by}
-use Rattle.lis_limits.specs.declared.TheConstants.{FILE_LEN, PROP_LEN}
+use Rattle.lis_limits.specs.declared.TheConstants.{FILE_LEN, PROP_LEN, SET_LEN}
 use Rattle.lis_ports.specs.Bytes.{part}
 use Rattle.lis_journal.specs.Journal.{Held, shape_of}
 use Rattle.lis_journal.specs.Images.{look}
@@ -9,8 +9,8 @@ use Rattle.lis_slots.specs.Slots.{place}
 use Rattle.lis_model.specs.Image.{properties_start}
 use Rattle.lis_model.specs.declared.limits.Limits.{Limits}
 use Rattle.lis_kept.specs.Metadata.{Metadata}
-use Rattle.lis_kept.specs.Areas.{Area, slots_of, block_of, spelled, held_in, is_marked, IsSaved, property_slots, axiom_slots, file_slots, row_slots}
-use Rattle.lis_kept.specs.Areas.Area.{Properties, Axioms, Files, Rows, Bitmap}
+use Rattle.lis_kept.specs.Areas.{Area, slots_of, block_of, spelled, held_in, is_marked, IsSaved, property_slots, axiom_slots, file_slots, row_slots, set_slots}
+use Rattle.lis_kept.specs.Areas.Area.{Properties, Axioms, Files, Rows, Sets, Bitmap}
 
 -- the bytes of a slot in its block; a slot of the bitmap is the whole block
 abbrev pub bytes_in : Limits → Area → ℕ → List ℕ → List ℕ
@@ -18,6 +18,7 @@ bytes_in limits Properties m block = part (place (property_slots limits) m) PROP
 bytes_in limits Axioms m block = part (place (axiom_slots limits) m) 8 block
 bytes_in limits Files m block = part (place (file_slots limits) m) FILE_LEN block
 bytes_in limits Rows m block = part (place (row_slots limits) m) (row_slots limits).width block
+bytes_in limits Sets m block = part (place (set_slots limits) m) SET_LEN block
 bytes_in limits Bitmap m block = block
 
 -- these bytes are those of the block with this number, whatever area it is in

@@ -7,10 +7,10 @@ ghost use Rattle.lis_content.specs.Content.{marked};
 ghost use Rattle.lis_catalog.specs.Catalog.{rec_at, slot_of};
 ghost use Rattle.lis_dict.specs.Dict.{word_of};
 ghost use Rattle.lis_ext.specs.Ext.{has};
-ghost use Rattle.lis_model.specs.Image.{data_start};
+ghost use Rattle.lis_model.specs.Image.{descriptions_start, data_start};
 ghost use Rattle.lis_model.specs.Ranges.{are_in_range};
-ghost use Rattle.lis_kept.specs.Areas.{block_of};
-ghost use Rattle.lis_kept.specs.Areas.Area.{Files as FileArea, Rows};
+ghost use Rattle.lis_kept.specs.Areas.{block_of, description_home};
+ghost use Rattle.lis_kept.specs.Areas.Area.{Files as FileArea};
 ghost use Rattle.lis_kept.specs.Sound.{AreSound, is_sound_record};
 ghost use Rattle.lis_kept.specs.Changes.{Describes, Drops, Files};
 
@@ -21,29 +21,41 @@ use crate::places::{descriptions_start, files_start};
 use lis_bits::Flags;
 use lis_ext::Ext;
 use lis_fields::FileRec;
-use lis_limits::{BLOCK_LEN, FILES_PER_BLOCK, MAX_DESCRIPTION};
+use lis_limits::{BLOCK_LEN, FILES_PER_BLOCK, MAX_DESCRIPTION, SETS_PER_BLOCK};
 use lis_model::limits::Limits;
 
-// Marks the blocks of the rows that changed.
-fn mark_rows(ext: &Ext, limits: &Limits, marks: &mut Flags)
+// Which of the blocks that say what files have shows whether the file in a slot has a number.
+#[tactic(auto, using(crate::proofs::InArea::some_rows))]
+fn description_place(limits: &Limits, slot: u32, number: u32) -> u32
+    requires range { IsTrue (are_in_range limits.now) }
+    ensures { descriptions_start limits.now + result ≡ description_home limits.now slot number }
+{
+    if limits.version == 3 {
+        return slot / SETS_PER_BLOCK;
+    }
+    number / (BLOCK_LEN as u32 / (limits.files / 8))
+}
+
+// Marks the blocks that show who has the numbers that the file in a slot got or lost.
+fn mark_described(ext: &Ext, limits: &Limits, slot: u32, marks: &mut Flags)
     requires range { IsTrue (are_in_range limits.now) }
     requires long { data_start limits.now ≤ length marks.old }
     requires few { length ext.now.marks ≤ limits.now.props }
+    requires slot { slot < limits.now.files }
     requires below { IsTrue (list_all (λ n. nat_lt n limits.now.props) ext.now.marks) }
-    ensures { marks.new ≡ marked marks.old (map (block_of limits.now Rows) ext.now.marks) }
+    ensures { marks.new ≡ marked marks.old (map (description_home limits.now slot) ext.now.marks) }
 {
     let first = descriptions_start(limits);
-    let per_block = BLOCK_LEN as u32 / (limits.files / 8);
     for k in 0..limits.props {
         match ext.changed(k) {
             None => return,
-            Some(number) => marks.put(first + number / per_block, true),
+            Some(number) => marks.put(first + description_place(limits, slot, number), true),
         }
     }
 }
 
 // Marks the block of a file slot.
-#[tactic(auto, using(lis_model::proofs::Stored::stored_records, lis_model::proofs::Stored::few_limits))]
+#[tactic(auto, using(lis_model::proofs::Ranges::few_records, lis_model::proofs::Ranges::few_limits))]
 fn mark_file(marks: &mut Flags, limits: &Limits, slot: u32)
     requires range { IsTrue (are_in_range limits.now) }
     requires slot { slot < limits.now.files }
@@ -64,7 +76,7 @@ impl Metadata {
         ensures sound { AreSound self.new }
     {
         self.ext.set_file(slot, new);
-        mark_rows(&self.ext, &self.limits, &mut self.marks);
+        mark_described(&self.ext, &self.limits, slot, &mut self.marks);
         self.ext.settle();
     }
 

@@ -11,6 +11,7 @@ mod metadata;
 mod places;
 mod reading;
 mod rows;
+mod sets;
 mod spelling;
 mod test_edges;
 mod under;

@@ -14,11 +14,11 @@ use crate::metadata::Metadata;
 use crate::places::axioms_start;
 use lis_bits::Flags;
 use lis_fields::AxiomSlot;
-use lis_limits::{AXIOMS_PER_BLOCK, MAX_PROPS};
+use lis_limits::{AXIOMS_PER_BLOCK, V3_MAX_PROPS};
 use lis_model::limits::Limits;
 
 // Marks the block of an axiom slot.
-#[tactic(auto, using(lis_model::proofs::Stored::stored_records, lis_model::proofs::Stored::few_limits))]
+#[tactic(auto, using(lis_model::proofs::Ranges::few_records, lis_model::proofs::Ranges::few_limits))]
 fn mark_axiom(marks: &mut Flags, limits: &Limits, slot: usize)
     requires range { IsTrue (are_in_range limits.now) }
     requires slot { slot < limits.now.props }
@@ -69,7 +69,7 @@ fn has_pair(axioms: &[AxiomSlot], left: u32, right: u32) -> bool
 
 // How many slots an axiom is in.
 fn filled_count(axioms: &[AxiomSlot]) -> u32
-    requires { length axioms.now ≤ MAX_PROPS }
+    requires { length axioms.now ≤ V3_MAX_PROPS }
     ensures { result ≡ count_by is_filled axioms.now }
 {
     let mut count = 0;

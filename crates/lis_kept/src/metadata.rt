@@ -10,6 +10,7 @@ use crate::places::{
     axioms_start, bitmap_start, data_start, descriptions_start, files_start, properties_start,
 };
 use crate::rows::write_rows;
+use crate::sets::write_sets;
 use crate::spelling::{write_axioms, write_files, write_properties};
 use lis_bits::Flags;
 use lis_blockmap::BlockMap;
@@ -18,7 +19,9 @@ use lis_dict::Dict;
 use lis_ext::Ext;
 use lis_fields::AxiomSlot;
 use lis_journal::Journal;
-use lis_limits::{AXIOMS_PER_BLOCK, BLOCK_LEN, FILES_PER_BLOCK, PROPERTIES_PER_BLOCK};
+use lis_limits::{
+    AXIOMS_PER_BLOCK, BLOCK_LEN, FILES_PER_BLOCK, PROPERTIES_PER_BLOCK, SETS_PER_BLOCK,
+};
 use lis_model::limits::Limits;
 use lis_taxonomy::Taxonomy;
 use std::marker::Model;
@@ -78,10 +81,13 @@ impl Metadata {
         ensures sound { AreSound self.now }
     {
         let end = data_start(self.limits());
-        for n in properties_start(self.limits())..end {
-            if self.is_marked(n) {
-                self.stage_block(journal, n);
+        let mut from = properties_start(self.limits());
+        while let Some(n) = self.marks.next(from) {
+            if n >= end {
+                return;
             }
+            self.stage_block(journal, n);
+            from = n + 1;
         }
     }
 
@@ -91,14 +97,6 @@ impl Metadata {
         ensures sound { AreSound self.new }
     {
         self.marks.fill(false);
-    }
-
-    // Whether a block must be written.
-    fn is_marked(&self, n: u32) -> bool
-        requires { n < length self.now.marks }
-        ensures { result ≡ is_marked self.now n }
-    {
-        self.marks.get(n)
     }
 
     // Stages a block, spelled whole.
@@ -121,7 +119,7 @@ impl Metadata {
         journal.stage(n, &block);
     }
 
-    // Writes a block of slots or rows.
+    // Writes a block of slots, rows or sets.
     #[tactic(auto, using(crate::proofs::InArea::few_properties, crate::proofs::InArea::few_files))]
     fn write_block(&self, n: u32, block: &mut [u8])
         requires from { properties_start self.now.limits ≤ n }
@@ -141,14 +139,24 @@ impl Metadata {
             write_axioms(self.axioms.as_slice(), first, block);
             return;
         }
-        let rows = descriptions_start(&self.limits);
-        if n < rows {
+        let descriptions = descriptions_start(&self.limits);
+        if n < descriptions {
             let first = FILES_PER_BLOCK * (n - files);
             write_files(&self.catalog, &self.limits, first, block);
             return;
         }
+        if self.limits.version == 3 {
+            write_sets(&self.ext, SETS_PER_BLOCK * (n - descriptions), block);
+            return;
+        }
         let width = self.limits.files / 8;
         let count = BLOCK_LEN as u32 / width;
-        write_rows(&self.ext, count * (n - rows), width as usize, count, block);
+        write_rows(
+            &self.ext,
+            count * (n - descriptions),
+            width as usize,
+            count,
+            block,
+        );
     }
 }

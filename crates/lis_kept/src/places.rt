@@ -9,13 +9,12 @@ use lis_content::Laid;
 use lis_fields::FileRec;
 use lis_journal::{Capacity, Layout};
 use lis_limits::{
-    AXIOMS_PER_BLOCK, FILES_PER_BLOCK, MAX_IMAGE_BLOCKS, MAX_PLACED, MAX_STAGED,
-    PROPERTIES_PER_BLOCK, SETS_PER_BLOCK, V3_MAX_PLACED, V3_MAX_STAGED,
+    AXIOMS_PER_BLOCK, FILES_PER_BLOCK, MAX_PLACED, MAX_STAGED, PROPERTIES_PER_BLOCK,
+    SETS_PER_BLOCK, V3_MAX_IMAGE_BLOCKS, V3_MAX_PLACED, V3_MAX_STAGED,
 };
 use lis_model::limits::{Limits, bitmap_blocks, image_blocks, record_blocks};
 
 /// How an image of these limits is divided.
-#[tactic(auto, using(lis_model::proofs::Stored::stored_range))]
 pub fn image_layout(limits: &Limits) -> Layout
     requires { IsTrue (are_in_range limits.now) }
     ensures { result ≡ image_layout limits.now }
@@ -61,7 +60,7 @@ pub fn image_capacity(limits: &Limits) -> Capacity
 }
 
 /// The first block of property slots.
-#[tactic(auto, using(lis_model::proofs::Stored::stored_records))]
+#[tactic(auto, using(lis_model::proofs::Ranges::few_records))]
 pub fn properties_start(limits: &Limits) -> u32
     requires { IsTrue (are_in_range limits.now) }
     ensures { result ≡ properties_start limits.now }
@@ -70,7 +69,7 @@ pub fn properties_start(limits: &Limits) -> u32
 }
 
 /// The first block of axiom slots.
-#[tactic(auto, using(lis_model::proofs::Stored::stored_records, lis_model::proofs::Stored::few_limits))]
+#[tactic(auto, using(lis_model::proofs::Ranges::few_records, lis_model::proofs::Ranges::few_limits))]
 pub fn axioms_start(limits: &Limits) -> u32
     requires { IsTrue (are_in_range limits.now) }
     ensures { result ≡ axioms_start limits.now }
@@ -79,7 +78,7 @@ pub fn axioms_start(limits: &Limits) -> u32
 }
 
 /// The first block of file slots.
-#[tactic(auto, using(lis_model::proofs::Stored::stored_records, lis_model::proofs::Stored::few_limits))]
+#[tactic(auto, using(lis_model::proofs::Ranges::few_records, lis_model::proofs::Ranges::few_limits))]
 pub fn files_start(limits: &Limits) -> u32
     requires { IsTrue (are_in_range limits.now) }
     ensures { result ≡ files_start limits.now }
@@ -88,7 +87,7 @@ pub fn files_start(limits: &Limits) -> u32
 }
 
 /// The first block that says which words each file has.
-#[tactic(auto, using(lis_model::proofs::Stored::stored_records, lis_model::proofs::Stored::few_limits))]
+#[tactic(auto, using(lis_model::proofs::Ranges::few_records, lis_model::proofs::Ranges::few_limits))]
 pub fn descriptions_start(limits: &Limits) -> u32
     requires { IsTrue (are_in_range limits.now) }
     ensures { result ≡ descriptions_start limits.now }
@@ -100,7 +99,7 @@ pub fn descriptions_start(limits: &Limits) -> u32
 pub fn data_start(limits: &Limits) -> u32
     requires { IsTrue (are_in_range limits.now) }
     ensures start { result ≡ data_start limits.now }
-    ensures few { result ≤ MAX_IMAGE_BLOCKS }
+    ensures few { result ≤ V3_MAX_IMAGE_BLOCKS }
 {
     image_blocks(limits) - limits.blocks
 }

@@ -11,7 +11,7 @@ use lis_catalog::Catalog;
 use lis_dict::Dict;
 use lis_fields::{AxiomSlot, FileRec, FileSlot, PropSlot, write_axiom, write_file, write_prop};
 use lis_limits::{
-    AXIOM_LEN, AXIOMS_PER_BLOCK, BLOCK_LEN, FILE_LEN, FILES_PER_BLOCK, MAX_FILES, MAX_PROPS,
+    AXIOM_LEN, AXIOMS_PER_BLOCK, BLOCK_LEN, FILE_LEN, FILES_PER_BLOCK, V3_MAX_FILES, V3_MAX_PROPS,
     PROP_LEN, PROPERTIES_PER_BLOCK,
 };
 use lis_model::limits::Limits;
@@ -34,7 +34,7 @@ fn property_slot(dict: &Dict, declared: &Flags, number: u32) -> PropSlot
 pub fn write_properties(dict: &Dict, declared: &Flags, first: u32, block: &mut [u8])
     requires forms { (n : ℕ) → IsTrue (is_prop (property_at dict.now declared.now n)) }
     requires within { first + PROPERTIES_PER_BLOCK ≤ length declared.now }
-    requires few { length declared.now ≤ MAX_PROPS }
+    requires few { length declared.now ≤ V3_MAX_PROPS }
     requires whole { length block.old ≡ BLOCK_LEN }
     ensures { (k : ℕ) → k < PROPERTIES_PER_BLOCK → part (PROP_LEN * k) PROP_LEN block.new ≡ prop_bytes (property_at dict.now declared.now (first + k)) }
 {
@@ -58,7 +58,7 @@ fn axiom_slot(axioms: &[AxiomSlot], number: usize) -> AxiomSlot
 /// Writes the axiom slots from a number on, as many as a block has.
 pub fn write_axioms(axioms: &[AxiomSlot], first: usize, block: &mut [u8])
     requires forms { (n : ℕ) → IsTrue (is_axiom (axiom_at axioms.now n)) }
-    requires few { first ≤ MAX_PROPS }
+    requires few { first ≤ V3_MAX_PROPS }
     requires whole { length block.old ≡ BLOCK_LEN }
     ensures { (k : ℕ) → k < AXIOMS_PER_BLOCK → part (AXIOM_LEN * k) AXIOM_LEN block.new ≡ axiom_bytes (axiom_at axioms.now (first + k)) }
 {
@@ -102,7 +102,7 @@ fn file_slot(catalog: &Catalog, number: u32) -> FileSlot
 /// Writes the file slots from a number on, as many as a block has.
 pub fn write_files(catalog: &Catalog, limits: &Limits, first: u32, block: &mut [u8])
     requires records { (n : ℕ) → IsTrue (is_file limits.now (record_at catalog.now n)) }
-    requires few { first ≤ MAX_FILES }
+    requires few { first ≤ V3_MAX_FILES }
     requires whole { length block.old ≡ BLOCK_LEN }
     ensures { (k : ℕ) → k < FILES_PER_BLOCK → part (FILE_LEN * k) FILE_LEN block.new ≡ file_bytes limits.now.version (record_at catalog.now (first + k)) }
 {

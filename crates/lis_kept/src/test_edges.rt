@@ -10,7 +10,7 @@ ghost use Rattle.lis_kept.specs.TestEdges.{declared_test, is_past, IsNeighbour, 
 
 use lis_bits::Flags;
 use lis_dict::Dict;
-use lis_limits::MAX_PROPS;
+use lis_limits::V3_MAX_PROPS;
 use lis_taxonomy::Taxonomy;
 use lis_words::{Test, test_of};
 
@@ -94,7 +94,7 @@ fn number_of(found: Option<Found>) -> Option<u32>
 
 // The number of the nearest declared test on that side of a test.
 fn nearest(dict: &Dict, declared: &Flags, test: Test, side: Side) -> Option<u32>
-    requires few { dict.now.props ≤ MAX_PROPS }
+    requires few { dict.now.props ≤ V3_MAX_PROPS }
     requires bits { length declared.now ≡ dict.now.props }
     ensures below { IfSome result (λ number. number < dict.now.props) }
     ensures neighbour { IsNeighbour side dict.now declared.now (Some test) result }
@@ -119,7 +119,7 @@ fn nearest(dict: &Dict, declared: &Flags, test: Test, side: Side) -> Option<u32>
 
 // The number of the nearest declared test on that side of a number's test, if the number has one.
 fn neighbour(dict: &Dict, declared: &Flags, number: u32, side: Side) -> Option<u32>
-    requires few { dict.now.props ≤ MAX_PROPS }
+    requires few { dict.now.props ≤ V3_MAX_PROPS }
     requires number { number < dict.now.props }
     requires bits { length declared.now ≡ dict.now.props }
     ensures below { IfSome result (λ found. found < dict.now.props) }
@@ -175,7 +175,7 @@ fn unlink_pair(dict: &Dict, taxonomy: &mut Taxonomy, from: Option<u32>, to: Opti
 
 /// Adds the edge from a number to that of the next weaker test, if its word is a declared test and there is a weaker one.
 pub fn link_next(dict: &Dict, declared: &Flags, taxonomy: &mut Taxonomy, number: u32)
-    requires few { taxonomy.old.props ≤ MAX_PROPS }
+    requires few { taxonomy.old.props ≤ V3_MAX_PROPS }
     requires number { number < taxonomy.old.props }
     requires dict { IsDict dict.now }
     requires names { dict.now.props ≡ taxonomy.old.props }
@@ -191,7 +191,7 @@ pub fn link_next(dict: &Dict, declared: &Flags, taxonomy: &mut Taxonomy, number:
 
 /// Puts a number between those of the next tests on both sides, if its word is a declared test.
 pub(crate) fn insert_test(dict: &Dict, declared: &Flags, taxonomy: &mut Taxonomy, number: u32)
-    requires few { taxonomy.old.props ≤ MAX_PROPS }
+    requires few { taxonomy.old.props ≤ V3_MAX_PROPS }
     requires number { number < taxonomy.old.props }
     requires names { dict.now.props ≡ taxonomy.old.props }
     requires bits { length declared.now ≡ taxonomy.old.props }
@@ -208,7 +208,7 @@ pub(crate) fn insert_test(dict: &Dict, declared: &Flags, taxonomy: &mut Taxonomy
 
 /// Removes a number from between those of the next tests on both sides, if its word is a declared test.
 pub(crate) fn remove_test(dict: &Dict, declared: &Flags, taxonomy: &mut Taxonomy, number: u32)
-    requires few { taxonomy.old.props ≤ MAX_PROPS }
+    requires few { taxonomy.old.props ≤ V3_MAX_PROPS }
     requires number { number < taxonomy.old.props }
     requires names { dict.now.props ≡ taxonomy.old.props }
     requires bits { length declared.now ≡ taxonomy.old.props }

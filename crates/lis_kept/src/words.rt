@@ -35,7 +35,7 @@ use lis_taxonomy::Taxonomy;
 use lis_words::{Word, head_of, is_valued};
 
 // Marks the block of a property slot.
-#[tactic(auto, using(lis_model::proofs::Stored::stored_records, lis_model::proofs::Stored::few_limits))]
+#[tactic(auto, using(lis_model::proofs::Ranges::few_records, lis_model::proofs::Ranges::few_limits))]
 fn mark_property(marks: &mut Flags, limits: &Limits, number: u32)
     requires range { IsTrue (are_in_range limits.now) }
     requires number { number < limits.now.props }

@@ -17,7 +17,7 @@ use lis_derive::gives_all;
 use lis_fields::FileRec;
 use lis_journal::Journal;
 use lis_kept::data_start;
-use lis_limits::{BLOCK_LEN, MAX_LARGE_FILE};
+use lis_limits::{BLOCK_LEN, V3_MAX_FILE};
 use lis_model::limits::Limits;
 use lis_ports::{Disk, Failed};
 use lis_words::Name;
@@ -31,7 +31,7 @@ fn read_front<D: Disk>(
     blocks: &[u32],
     bytes: &mut Buffer,
 ) -> Result<(), Failed>
-    requires few { length bytes.old ≤ MAX_LARGE_FILE }
+    requires few { length bytes.old ≤ V3_MAX_FILE }
     requires count { length blocks.now ≡ blocks_needed (length bytes.old) }
     requires home { homes_start journal.now.layout ≤ base }
     requires within { IsTrue (are_within base journal.now.layout.blocks blocks.now) }
