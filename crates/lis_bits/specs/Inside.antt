@@ -2,7 +2,7 @@
 use Rattle.std.specs.Prelude.{◌≡◌, ℕ, ◌+◌, ◌*◌, ◌/◌, ◌%◌, ◌^◌, ◌<◌, ◌≤◌, Bool, List, [], length, map, unwrap_or, slice_index}
 use Rattle.std.specs.List.{range_with_len}
 use Rattle.lis_region.specs.Region as region
-use Rattle.lis_bits.specs.Rows.{Rows, HasShape, row_at, row_of}
+use Rattle.lis_bits.specs.Rows.{Rows, row_of}
 use Rattle.lis_bits.specs.Words.{word_bit}
 
 -- a bit of the row whose first word is at this place
@@ -32,7 +32,9 @@ abbrev pub IsBitwise : (Bool → Bool → Bool) → (ℕ → ℕ → ℕ → Typ
 IsBitwise join op = (a b word : ℕ) → a < 2 ^ 64 → b < 2 ^ 64 → op a b word → (bit : ℕ) → bit < 64
     → word_bit word bit ≡ join (word_bit a bit) (word_bit b bit)
 
--- one row of that width
-pub record IsOneRow (r : Rows) (bits : ℕ) : Type 0 where
-  pub shape : HasShape r 1 bits
-  pub long : length (row_at r 0) ≡ bits
+-- there is room for the words of all flags, and no word is past the last flag
+pub record AreSoundFlags (words : List ℕ) (bits capacity : ℕ) : Type 0 where
+  pub whole_words : bits % 64 ≡ 0
+  pub few : bits ≤ 2 ^ 27
+  pub within : 64 * length words ≤ bits
+  pub room : bits ≤ 64 * capacity
