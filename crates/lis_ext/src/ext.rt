@@ -61,14 +61,14 @@ impl Ext {
         })
     }
 
-    /// Replaces a file's set, and marks the numbers that are in one of the old and the new set and not in both. Each set was in range, as
-    /// always.
+    /// Replaces a file's set, and marks the numbers that are in one of the old and the new set and not in both. The contract
+    /// also says what each `Ext` keeps.
     pub fn set_file(&mut self, file: u32, new: &[u32])
         requires file { file < length self.old.sets }
         requires few { length new.now ≤ MAX_DESCRIPTION }
         requires new_rises { IsStrictlyIncreasing new.now }
         requires new_in { All (λ number. number < self.old.props) new.now }
-        ensures in_range { (i : ℕ) → i < length self.old.sets → All (λ p. p < self.old.props) (set_of self.old i) }
+        ensures kept { IsKept self.old }
         ensures props { self.new.props ≡ self.old.props }
         ensures sets { self.new.sets ≡ slice_set self.old.sets file new.now }
         ensures marks { self.new.marks ≡ with_marks self.old (differs (set_of self.old file) new.now) }

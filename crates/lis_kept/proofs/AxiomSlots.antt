@@ -103,5 +103,5 @@ abbrev pub InSlot : List AxiomSlot → ℕ → ℕ → Type 0
 InSlot axioms left right = (slot : ℕ) × (slice_get axioms slot ≡ Some (Pair left right))
 
 -- how many slots there are
-pub few_slots : (k : Metadata) → AreSound k → length k.axioms ≤ 8192
+pub few_slots : (k : Metadata) → AreSound k → length k.axioms ≤ 1048576
 few_slots k sound = search (rules, few_properties)

@@ -13,7 +13,7 @@ use Rattle.lis_graph.proofs.Members.{among_at}
 use Rattle.lis_model.specs.Image.{bitmap_blocks, image_blocks}
 use Rattle.lis_kept.specs.Metadata.{Metadata}
 use Rattle.lis_kept.specs.Areas.{Area, slots_of, block_of, spelled, bitmap_home, is_marked}
-use Rattle.lis_kept.specs.Areas.Area.{Properties, Axioms, Files, Rows, Bitmap}
+use Rattle.lis_kept.specs.Areas.Area.{Properties, Axioms, Files, Rows, Sets, Bitmap}
 use Rattle.lis_kept.specs.Sound.{AreSound}
 use Rattle.lis_kept.specs.Changes.{Marks, Takes, bitmap_homes}
 use Rattle.lis_kept.proofs.Marking.{true_in, marked_only, one_at_most, blocks_marked}
@@ -162,6 +162,7 @@ module _ (p : Metadata) (sound : AreSound p) (blocks : List ℕ) (taken marks : 
   spelled_before Axioms n lt apart = refl
   spelled_before Files n lt apart = refl
   spelled_before Rows n lt apart = refl
+  spelled_before Sets n lt apart = refl
   spelled_before Bitmap n lt apart =
       bytes_unless p.limits p.taken taken blocks n sound.blocks len others
       (λ among. apart (subst (Among (bitmap_homes p.limits blocks)) (omega arith) among))

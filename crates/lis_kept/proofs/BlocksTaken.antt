@@ -2,8 +2,9 @@
 use Rattle.std.proofs.Common.{MatchResult, OnOk, OnErr, ap₂, arith, nat_le, min}
 use Rattle.lis_kept.proofs.Common.{rules, ◌≡◌, refl, sym, ap, ◌∙◌, subst, ℕ, zero, suc, ◌≤◌, nat_lt, not, Bool, true, false, List, [], ◌∷◌, length, map, drop, Result, Ok, Err, list_all, and_parts, ltb-true, lt-ltb, Held, are_distinct, slot_count, FileRecord, Taxonomy, Among, marked, length-marked, data_start, all_among, and_from, all_from, ◌==◌, ◌&&◌, ◌||◌, ◌/◌, ◌*◌, Limits, cond, ◌+◌, ◌⊎◌, inl, inr, IsTrue, are_in_range}
 use Rattle.lis_model.specs.Ranges.{most_blocks}
-use Rattle.lis_model.proofs.Stored.{stored_parts}
-use Rattle.std.proofs.lemmas.Bool.{cond-true, eq-eqb, ltb-false, leb-false, and_from}
+use Rattle.std.specs.Prelude.{◌^◌}
+use Rattle.lis_model.proofs.Ranges.{own_limits, limit_le, early_limit_le}
+use Rattle.std.proofs.lemmas.Bool.{cond-true, eq-eqb, leb-true, ltb-false, leb-false, and_from}
 use Rattle.lis_ports.specs.Meaning.{Meaning}
 use Rattle.lis_ports.specs.Runs.{Leaves}
 use Rattle.lis_ports.proofs.Moments.{leaves_none}
@@ -28,7 +29,9 @@ use Rattle.lis_kept.specs.Metadata.{Metadata}
 use Rattle.lis_kept.specs.Sound.{is_sound_record}
 use Rattle.lis_kept.specs.Links.{AreHeld}
 use Rattle.lis_kept.specs.Changes.{bitmap_homes, Takes, GivesBack, Fills, Lands, Puts, PutTorn}
-use Rattle.lis_kept.proofs.InArea.{few_blocks, two_bytes}
+use Rattle.lis_kept.proofs.InArea.{numbers_fit}
+use Rattle.lis_kept.specs.Image.{most_placed}
+use Rattle.lis_kept.proofs.Image.{early_placed, third_placed}
 use Rattle.lis_kept.proofs.Formed.{held_files, record_parts}
 use Rattle.lis_kept.proofs.BitmapMarks.{is_home, bitmap_home_of, homes_are, homes_by, bitmap_marked, given_others, marked_others}
 use Rattle.lis_kept.specs.Telling.{blocks_told}
@@ -56,20 +59,22 @@ distinct_behind ns zero apart = apart
 distinct_behind [] (suc k) apart = refl
 distinct_behind (n ∷ ns) (suc k) apart = distinct_behind ns k (and_parts (not (has_number ns n)) (are_distinct ns) apart).1
 
--- free blocks are numbers below the number of blocks, of two bytes each
+-- free blocks are numbers below the number of blocks, which fit in their bytes
 module _ (p : Metadata) (t : Taxonomy) (held : AreHeld p t) (numbers : List ℕ) (free : are_free p.taken numbers ≡ true) where
   free_below : list_all (λ n. nat_lt n p.limits.blocks) numbers ≡ true
   free_below = ap (λ m. are_below m numbers) (sym held.sound.blocks) ∙ below_from_free p.taken numbers free
 
-  free_short : fit 2 numbers ≡ true
-  free_short = search (rules, all_from, lt-ltb, ltb-true, all_among, free_below, few_blocks)
+  free_short : fit (number_width p.limits.version) numbers ≡ true
+  free_short =
+      all_from (λ n. nat_lt n (256 ^ number_width p.limits.version)) numbers
+      (λ n m. lt-ltb n (256 ^ number_width p.limits.version) (numbers_fit p.limits n held.sound.range (inr (ltb-true n p.limits.blocks (all_among (λ n. nat_lt n p.limits.blocks) numbers n free_below m)))))
 
   free_in_form : (size : ℕ) → size ≤ file_limit p.limits → length numbers ≡ slot_count size → are_distinct numbers ≡ true → are_blocks p.limits.version size numbers ≡ true
   free_in_form size few counted apart =
       and_from ((length numbers == slot_blocks p.limits.version size) && fit (number_width p.limits.version) numbers) (are_distinct numbers)
       (and_from (length numbers == slot_blocks p.limits.version size) (fit (number_width p.limits.version) numbers)
       (eq-eqb (length numbers) (slot_blocks p.limits.version size) (counted ∙ sym (slot_blocks_counted p.limits size held.sound.range few)))
-      (subst (λ width. fit width numbers ≡ true) (sym (two_bytes p.limits held.sound.range)) free_short)) apart
+      free_short) apart
 
 -- ---- a content that is placed
 placed_fills : (p : Metadata) (taken : List Bool) (old : Held) (before after : Meaning) (blocks : List ℕ) → Places (data_start p.limits) p.taken taken old before after blocks → Fills blocks p old before after
@@ -133,23 +138,27 @@ module _ (limits : Limits) (bytes slot : List ℕ) (taken now_taken : List Bool)
   placed_marks marks = ap (marked marks) (ap (map (bitmap_home_of limits)) placed_at ∙ homes_by limits placed.blocks placed_below)
 
 -- what a placing takes
-pub few_taken : (size : ℕ) → size ≤ 1048576 → blocks_taken 2 size ≤ 257
-few_taken size few = by (nat_le n 16)
+pub few_taken : (limits : Limits) (size : ℕ) → IsTrue (are_in_range limits) → size ≤ file_limit limits → blocks_taken 2 size ≤ most_placed limits
+few_taken limits size range le = by (limits.version == 3) refl
   where
     n : ℕ
     n = blocks_needed size
 
-    by : (small : Bool) → n + cond small 0 ((n + 1023) / 1024) ≤ 257
-    by true = omega (arith, few)
-    by false = omega (arith, few)
+    third_few : (small : Bool) → size ≤ 67108864 → n + cond small 0 ((n + 1023) / 1024) ≤ 16400
+    third_few true few = omega (arith, few)
+    third_few false few = omega (arith, few)
+
+    early_few : (small : Bool) → size ≤ 1048576 → n + cond small 0 ((n + 1023) / 1024) ≤ 257
+    early_few true few = omega (arith, few)
+    early_few false few = omega (arith, few)
+
+    by : (third : Bool) → (limits.version == 3) ≡ third → blocks_taken 2 size ≤ most_placed limits
+    by true third = omega (arith, third_placed limits third, third_few (nat_le n 16) (omega (arith, le, limit_le limits)))
+    by false early = omega (arith, early_placed limits early, early_few (nat_le n 16) (omega (arith, le, early_limit_le limits range early)))
 
 -- each block has a number of the version
 pub few_numbers : (limits : Limits) → IsTrue (are_in_range limits) → limits.blocks ≤ most_blocks limits.version
-few_numbers limits range = of_version (stored_parts limits range).version
-  where
-    of_version : (limits.version ≡ 1) ⊎ (limits.version ≡ 2) → limits.blocks ≤ most_blocks limits.version
-    of_version (inl one) = subst (λ v. limits.blocks ≤ most_blocks v) (sym one) (few_blocks limits range)
-    of_version (inr two) = subst (λ v. limits.blocks ≤ most_blocks v) (sym two) (few_blocks limits range)
+few_numbers limits range = leb-true limits.blocks (most_blocks limits.version) (and_parts (nat_le 1 limits.blocks) (nat_le limits.blocks (most_blocks limits.version)) (own_limits limits range).blocks).1
 
 -- ---- a content that is staged
 module _ (p : Metadata) (t : Taxonomy) (held : AreHeld p t) (bytes numbers : List ℕ) (taken : List Bool) (old new : Held) (m : Meaning) (few : length bytes ≤ file_limit p.limits)

@@ -1,26 +1,26 @@
--- What two shapes of a journal have in common, and how much is staged and placed in versions 1 and 2.
-use Rattle.std.proofs.Common.{◌≡◌, ◌⊎◌, ◌+◌, ◌/◌, ◌==◌, cond, false, IsTrue, inl, inr, ap}
+-- What two shapes of a journal have in common, and how much is staged and placed.
+use Rattle.std.proofs.Common.{◌≡◌, ◌+◌, ◌/◌, ◌==◌, cond, true, false, ap}
 use Rattle.lis_journal.specs.Record.{homes_start}
 use Rattle.lis_journal.specs.Journal.{Shape}
 use Rattle.lis_model.specs.declared.limits.Limits.{Limits}
-use Rattle.lis_model.specs.Ranges.{are_in_range}
-use Rattle.lis_model.proofs.Stored.{stored_parts}
 use Rattle.lis_kept.specs.Image.{most_staged, most_placed}
 
-not_third : (limits : Limits) → IsTrue (are_in_range limits) → (limits.version == 3) ≡ false
-not_third limits h = by (stored_parts limits h).version
-  where
-    by : (limits.version ≡ 1) ⊎ (limits.version ≡ 2) → (limits.version == 3) ≡ false
-    by (inl one) = ap (λ v. v == 3) one
-    by (inr two) = ap (λ v. v == 3) two
-
-pub stored_staged : (limits : Limits) → IsTrue (are_in_range limits) → most_staged limits ≡ 575
+-- 575 and 257 before version 3
+pub early_staged : (limits : Limits) → (limits.version == 3) ≡ false → most_staged limits ≡ 575
 unfolding most_staged
-stored_staged limits h = ap (λ third. cond third (limits.files / 8 + 893) 575) (not_third limits h)
+early_staged limits early = ap (λ third. cond third (limits.files / 8 + 893) 575) early
 
-pub stored_placed : (limits : Limits) → IsTrue (are_in_range limits) → most_placed limits ≡ 257
+pub early_placed : (limits : Limits) → (limits.version == 3) ≡ false → most_placed limits ≡ 257
 unfolding most_placed
-stored_placed limits h = ap (λ third. cond third 16400 257) (not_third limits h)
+early_placed limits early = ap (λ third. cond third 16400 257) early
+
+pub third_staged : (limits : Limits) → (limits.version == 3) ≡ true → most_staged limits ≡ limits.files / 8 + 893
+unfolding most_staged
+third_staged limits third = ap (λ third. cond third (limits.files / 8 + 893) 575) third
+
+pub third_placed : (limits : Limits) → (limits.version == 3) ≡ true → most_placed limits ≡ 16400
+unfolding most_placed
+third_placed limits third = ap (λ third. cond third 16400 257) third
 
 module _ {a b : Shape} (same : a ≡ b) where
   pub same_layout : a.layout ≡ b.layout

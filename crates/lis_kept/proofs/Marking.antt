@@ -1,16 +1,18 @@
 -- Marks of the blocks that a change touches.
 use Rattle.std.proofs.Common.{arith}
-use Rattle.lis_kept.proofs.Common.{rules, ◌≡◌, ◌⊎◌, ℕ, ◌+◌, ◌<◌, ◌≤◌, Bool, true, false, cond, nat_lt, IsTrue, slice_get, Some, List, [], ◌∷◌, ◌++◌, length, set, map, take, count_by, refl, sym, ap, ◌∙◌, subst, inl, inr, length-set, get_or-set_same, get_or-set_other, zero, suc, list_all, Contains, cases_eq, ltb-true, take_more, Contains-get_or, slice_get_within, get_or_from_slice_get, Among, among_from_contains, Limits, are_in_range, data_start, all_among, sum_by-cons, length-map, among_map, Ext, has, among_where, marked, common_steps, both_ways, false_from_ne_true, map_among}
+use Rattle.lis_kept.proofs.Common.{rules, ◌≡◌, ◌⊎◌, ℕ, ◌+◌, ◌<◌, ◌≤◌, ◌==◌, Bool, true, false, cond, nat_lt, IsTrue, slice_get, Some, List, [], ◌∷◌, ◌++◌, length, set, map, take, count_by, refl, sym, ap, ◌∙◌, subst, inl, inr, length-set, get_or-set_same, get_or-set_other, zero, suc, list_all, Contains, cases_eq, ltb-true, take_more, Contains-get_or, slice_get_within, get_or_from_slice_get, Among, among_from_contains, Limits, are_in_range, data_start, all_among, sum_by-cons, length-map, among_map, Ext, has, among_where, marked, common_steps, both_ways, false_from_ne_true, map_among}
 use Rattle.std.proofs.lemmas.List.{map-append}
 use Rattle.std.proofs.lemmas.List.Sums.{sum_by-set}
 use Rattle.lis_blockmap.specs.Bitmap.{is_taken}
 use Rattle.lis_content.proofs.Numbers.{marked_more}
 use Rattle.lis_kept.specs.Metadata.{Metadata}
-use Rattle.lis_kept.specs.Areas.{Area, slots_of, block_of, spelled}
-use Rattle.lis_kept.specs.Areas.Area.{Rows, Properties, Axioms, Files, Bitmap}
+use Rattle.lis_kept.specs.Areas.{Area, slots_of, block_of, description_home, spelled}
+use Rattle.lis_kept.specs.Areas.Area.{Rows, Sets, Properties, Axioms, Files, Bitmap}
 use Rattle.lis_kept.specs.Changes.{Marks}
-use Rattle.lis_kept.proofs.InArea.{among_slots, rows_counted}
+use Rattle.lis_kept.proofs.InArea.{among_slots, rows_counted, third_sets, some_are_early, some_are_third}
+use Rattle.lis_ext.specs.Ext.{set_of}
 use Rattle.lis_ext.specs.Numbers.{numbers_where}
+use Rattle.lis_fields.specs.Layouts.{set_bytes}
 use Rattle.lis_ext.proofs.Numbers.{where_among}
 use Rattle.lis_kept.specs.Sound.{AreSound}
 use Rattle.lis_kept.proofs.Spelled.{row_bytes_same}
@@ -67,11 +69,24 @@ marked_next f bits ns k n is =
 pub among_got : (ns : List ℕ) (k n : ℕ) → slice_get ns k ≡ Some n → Among ns n
 among_got ns k n is = among_from_contains ns n (subst (λ m. Contains ns m) (get_or_from_slice_get ns k n 0 is) (Contains-get_or ns k 0 (slice_get_within ns k n is)))
 
--- the block of a row
-pub row_home : (limits : Limits) (ns : List ℕ) (k n : ℕ) → IsTrue (are_in_range limits) → list_all (λ m. nat_lt m limits.props) ns ≡ true → slice_get ns k ≡ Some n → block_of limits Rows n < data_start limits
-row_home limits ns k n range below is =
-    let lt = ltb-true n limits.props (all_among (λ m. nat_lt m limits.props) ns n below (among_got ns k n is)) in
-    (among_slots limits range Rows n (omega (arith, lt, rows_counted limits range))).1
+-- ---- the blocks of descriptions
+pub third_home : (limits : Limits) (slot n : ℕ) → (limits.version == 3) ≡ true → description_home limits slot n ≡ block_of limits Sets slot
+third_home limits slot n third = ap (λ b. cond b (block_of limits Sets slot) (block_of limits Rows n)) third
+
+pub early_home : (limits : Limits) (slot n : ℕ) → (limits.version == 3) ≡ false → description_home limits slot n ≡ block_of limits Rows n
+early_home limits slot n early = ap (λ b. cond b (block_of limits Sets slot) (block_of limits Rows n)) early
+
+pub home_below : (limits : Limits) (slot n : ℕ) → IsTrue (are_in_range limits) → slot < limits.files → n < limits.props → description_home limits slot n < data_start limits
+home_below limits slot n range slot_in number_in = by (limits.version == 3) refl
+  where
+    by : (third : Bool) → (limits.version == 3) ≡ third → description_home limits slot n < data_start limits
+    by true third = omega (arith, third_home limits slot n third, (among_slots limits range Sets slot (omega (arith, slot_in, third_sets limits third))).1)
+    by false early = omega (arith, early_home limits slot n early, (among_slots limits range Rows n (omega (arith, number_in, rows_counted limits range early))).1)
+
+-- the block of one of the numbers
+pub marked_home : (limits : Limits) (slot : ℕ) (ns : List ℕ) (k n : ℕ) → IsTrue (are_in_range limits) → slot < limits.files → list_all (λ m. nat_lt m limits.props) ns ≡ true → slice_get ns k ≡ Some n
+    → description_home limits slot n < data_start limits
+marked_home limits slot ns k n range slot_in below is = home_below limits slot n range slot_in (ltb-true n limits.props (all_among (λ m. nat_lt m limits.props) ns n below (among_got ns k n is)))
 
 -- ---- which blocks are marked, and how many
 -- what is marked was so, or is one of the blocks
@@ -104,35 +119,51 @@ marked_within bits (m ∷ ns) within = omega (arith, one_fewer bits m, marked_wi
     rest : (n : ℕ) → is_taken (set bits m false) n ≡ true → Among ns n
     rest n is = search (rules, get_or-set_other, both_ways, unset)
 
--- ---- marks of the blocks of rows
--- if the blocks of the rows of some numbers were marked, and the rows of others are as before
-module _ (p : Metadata) (sound : AreSound p) (test : ℕ → Bool) (e : Ext) (marks : List Bool) (as_many : length e.sets ≡ length p.ext.sets)
-    (are_marks : marks ≡ marked p.marks (map (block_of p.limits Rows) (numbers_where p.ext.props test)))
-    (same_row : (n : ℕ) → (n < p.ext.props → test n ≡ false) → (s : ℕ) → has e n s ≡ has p.ext n s) where
+-- ---- marks of the blocks of descriptions
+-- if a slot has other numbers, and the blocks that show who has those that pass a test were marked
+module _ (p : Metadata) (sound : AreSound p) (slot : ℕ) (slot_in : slot < p.limits.files) (test : ℕ → Bool) (e : Ext) (marks : List Bool) (as_many : length e.sets ≡ length p.ext.sets)
+    (are_marks : marks ≡ marked p.marks (map (description_home p.limits slot) (numbers_where p.ext.props test)))
+    (same_row : (n : ℕ) → (n < p.ext.props → test n ≡ false) → (s : ℕ) → has e n s ≡ has p.ext n s)
+    (same_set : (s : ℕ) → (s ≡ slot → ⊥) → set_of e s ≡ set_of p.ext s)
+    (unchanged : ((n : ℕ) → n < p.ext.props → test n ≡ false) → set_of e slot ≡ set_of p.ext slot) where
   abbrev touched : List ℕ
   touched = numbers_where p.ext.props test
+
+  abbrev home : ℕ → ℕ
+  home = description_home p.limits slot
 
   abbrev described : Metadata
   described = record p { ext = e; marks = marks }
 
-  homes_below : AreBelow (length p.marks) (map (block_of p.limits Rows) touched)
+  homes_below : AreBelow (length p.marks) (map home touched)
   homes_below h m =
-      let found = among_map (block_of p.limits Rows) touched h m in
+      let found = among_map home touched h m in
       let lt = (among_where p.ext.props test found.0 found.1).0 in
-      let inside = among_slots p.limits sound.range Rows found.0 (omega (arith, lt, sound.rows, rows_counted p.limits sound.range)) in
-      omega (arith, inside.1, found.2, sound.marks)
+      let inside = home_below p.limits slot found.0 sound.range slot_in (omega (arith, lt, sound.rows)) in
+      omega (arith, inside, found.2, sound.marks)
 
-  untouched : (n : ℕ) → (Among (map (block_of p.limits Rows) touched) (block_of p.limits Rows n) → ⊥) → n < p.ext.props → test n ≡ false
-  untouched n apart lt = false_from_ne_true (test n) (λ passes. apart (map_among (block_of p.limits Rows) touched n (where_among p.ext.props test n lt passes)))
+  -- the test fails for a number whose block was not marked
+  untouched : (n : ℕ) → (Among (map home touched) (home n) → ⊥) → n < p.ext.props → test n ≡ false
+  untouched n apart lt = false_from_ne_true (test n) (λ passes. apart (map_among home touched n (where_among p.ext.props test n lt passes)))
 
-  spelled_before : (area : Area) (n : ℕ) → n < (slots_of p.limits area).count → (Among (map (block_of p.limits Rows) touched) (block_of p.limits area n) → ⊥) → spelled described area n ≡ spelled p area n
+  spelled_before : (area : Area) (n : ℕ) → n < (slots_of p.limits area).count → (Among (map home touched) (block_of p.limits area n) → ⊥) → spelled described area n ≡ spelled p area n
   spelled_before Properties n lt apart = refl
   spelled_before Axioms n lt apart = refl
   spelled_before Files n lt apart = refl
-  spelled_before Rows n lt apart = row_bytes_same p.ext e n as_many (same_row n (untouched n apart))
+  spelled_before Rows n lt apart =
+      let here = early_home p.limits slot n (some_are_early p.limits n lt) in
+      row_bytes_same p.ext e n as_many (same_row n (untouched n (subst (λ b. Among (map home touched) b → ⊥) (sym here) apart)))
+  spelled_before Sets n lt apart = ap set_bytes (by (cases_eq n slot))
+    where
+      by : (n ≡ slot) ⊎ (n ≡ slot → ⊥) → set_of e n ≡ set_of p.ext n
+      by (inl is) =
+          let here : (m : ℕ) → home m ≡ block_of p.limits Sets n = λ m. third_home p.limits slot m (some_are_third p.limits n lt) ∙ ap (block_of p.limits Sets) (sym is) in
+          let same = unchanged (λ m. untouched m (subst (λ b. Among (map home touched) b → ⊥) (sym (here m)) apart)) in
+          subst (λ s. set_of e s ≡ set_of p.ext s) (sym is) same
+      by (inr differ) = same_set n differ
   spelled_before Bitmap n lt apart = refl
 
-  pub rows_marked : Marks (length touched) p described
-  rows_marked =
+  pub description_marked : Marks (length touched) p described
+  description_marked =
       let M : ℕ → Type 0 = λ n. Marks n p described in
-      subst M (length-map touched (block_of p.limits Rows)) (blocks_marked p described (map (block_of p.limits Rows) touched) refl are_marks homes_below spelled_before)
+      subst M (length-map touched home) (blocks_marked p described (map home touched) refl are_marks homes_below spelled_before)

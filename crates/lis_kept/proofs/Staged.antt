@@ -1,6 +1,6 @@
 -- Blocks that are staged one by one, each as memory spells it.
 use Rattle.std.proofs.Common.{arith}
-use Rattle.lis_kept.proofs.Common.{rules, ◌≡◌, ◌⊎◌, ℕ, ◌+◌, ◌<◌, ◌≤◌, ◌==◌, Bool, true, false, cond, List, [], ◌∷◌, length, take, count_by, IsTrue, refl, sym, ap, ◌∙◌, inl, inr, cases_eq, cases_lt, ne_eqb, Held, are_in_range, data_start}
+use Rattle.lis_kept.proofs.Common.{rules, ◌≡◌, ◌⊎◌, ℕ, ◌+◌, ◌<◌, ◌≤◌, ◌==◌, zero, suc, subst, Bool, true, false, cond, List, [], ◌∷◌, length, take, count_by, IsTrue, refl, sym, ap, ◌∙◌, inl, inr, cases_eq, cases_lt, ne_eqb, Held, are_in_range, data_start}
 use Rattle.std.proofs.lemmas.Bool.{eq-eqb}
 use Rattle.std.proofs.lemmas.List.Sums.{count_by_more_no, count_by_more_yes, sum_by-take-le}
 use Rattle.lis_journal.specs.Record.{HomeBlock}
@@ -77,6 +77,14 @@ module _ (k : Metadata) (n : ℕ) (old now : Held) (within : n < length k.marks)
       apart : (other : ℕ) (was : List ℕ) → (other < properties_start k.limits) ⊎ (n + 1 ≤ other) → look new.staged other was ≡ look old.staged other was
       apart other was (inl before) = one.others other was (λ e. omega (arith, e, before, from)) ∙ so_far.others other was (inl before)
       apart other was (inr behind) = one.others other was (λ e. omega (arith, e, behind)) ∙ so_far.others other was (inr (omega arith))
+
+-- no block in a row of blocks is marked
+pub staged_over : (k : Metadata) (old now : Held) (from d : ℕ) → d + from ≤ length k.marks → properties_start k.limits ≤ from → ((j : ℕ) → from ≤ j → j < d + from → is_marked k j ≡ false)
+    → StagedBelow k from old now → StagedBelow k (d + from) old now
+staged_over k old now from zero within low none so_far = so_far
+staged_over k old now from (suc d) within low none so_far =
+    subst (λ n. StagedBelow k n old now) (omega arith) (staged_past k (d + from) old now (omega (arith, within)) (omega (arith, low))
+    (staged_over k old now from d (omega (arith, within)) low (λ j ge lt. none j ge (omega (arith, lt))) so_far) (none (d + from) (omega arith) (omega arith)))
 
 count_front : (bits : List Bool) (n : ℕ) → count_by (λ (b : Bool). b) (take n bits) ≤ count_by (λ (b : Bool). b) bits
 count_front bits n = sum_by-take-le _ bits n

@@ -1,6 +1,6 @@
 //! The metadata of an image, what memory keeps of it, as one value.
 
-ghost use Rattle.std.specs.Prelude.{◌≡◌, ℕ, ◌+◌, ◌<◌, ◌≤◌, false, length, replicate};
+ghost use Rattle.std.specs.Prelude.{◌≡◌, ℕ, ◌+◌, ◌<◌, ◌≤◌, false, length, replicate, IsTrue, IfSome, IfNone};
 ghost use Rattle.lis_journal.specs.Images.{is_among};
 ghost use Rattle.lis_model.specs.Image.{properties_start, bitmap_start, data_start};
 ghost use Rattle.lis_journal.specs.Journal.{shape_of};
@@ -82,7 +82,10 @@ impl Metadata {
     {
         let end = data_start(self.limits());
         let mut from = properties_start(self.limits());
-        while let Some(n) = self.marks.next(from) {
+        while from < end {
+            let Some(n) = self.next_marked(from) else {
+                return;
+            };
             if n >= end {
                 return;
             }
@@ -97,6 +100,17 @@ impl Metadata {
         ensures sound { AreSound self.new }
     {
         self.marks.fill(false);
+    }
+
+    // The first block from a number on that must be written.
+    fn next_marked(&self, from: u32) -> Option<u32>
+        ensures marked { IfSome result (λ n. IsTrue (is_marked self.now n)) }
+        ensures below { IfSome result (λ n. n < length self.now.marks) }
+        ensures from { IfSome result (λ n. from ≤ n) }
+        ensures least { IfSome result (λ n. (k : ℕ) → from ≤ k → k < n → is_marked self.now k ≡ false) }
+        ensures none { IfNone result ((k : ℕ) → from ≤ k → k < length self.now.marks → is_marked self.now k ≡ false) }
+    {
+        self.marks.next(from)
     }
 
     // Stages a block, spelled whole.

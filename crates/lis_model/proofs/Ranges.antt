@@ -150,6 +150,20 @@ limit_le limits = by (limits.version == 1) (limits.version == 2)
     by false true = omega arith
     by false false = min-le_left 67108864 (4096 * limits.blocks)
 
+-- versions before 3
+early_version : (n : ℕ) → is_version n ≡ true → (n == 3) ≡ false → (n ≡ 1) ⊎ (n ≡ 2)
+early_version n is early = grind (arith, nat_tests)
+
+pub early_limit_le : (limits : Limits) → IsTrue (are_in_range limits) → (limits.version == 3) ≡ false → file_limit limits ≤ 1048576
+early_limit_le limits h early = of_version (early_version limits.version (own_version limits h) early)
+  where
+    limit_in : ℕ → Type 0
+    limit_in v = cond (v == 1) 65536 (cond (v == 2) 1048576 (min 67108864 (4096 * limits.blocks))) ≤ 1048576
+
+    of_version : (limits.version ≡ 1) ⊎ (limits.version ≡ 2) → limit_in limits.version
+    of_version (inl one) = subst limit_in (sym one) (omega arith)
+    of_version (inr two) = subst limit_in (sym two) (omega arith)
+
 -- ---- the parts of an image
 -- in versions 1 and 2 the parts have few blocks: 576 of records, and one of the bitmap
 pub record FewParts (limits : Limits) : Type 0 where

@@ -1,8 +1,7 @@
 use Rattle.std.proofs.Common.{arith}
 use Rattle.lis_kept.proofs.Common.{ℕ, length, ◌∙◌, subst}
 use Rattle.lis_content.specs.Placing.{IsPlaced}
-use Rattle.lis_model.proofs.Stored.{stored_limit_le}
-use Rattle.lis_kept.proofs.Image.{same_placed, stored_placed}
+use Rattle.lis_kept.proofs.Image.{same_placed}
 use Rattle.lis_kept.proofs.BlocksTaken.{few_numbers, few_taken, placed_homes, placed_marks}
 use Rattle.lis_kept.proofs.changes.blocks.place_marked.Goals as goal
 
@@ -12,8 +11,7 @@ place_file-requires-clause-numbered g c = omega (arith, c.requires.taken, few_nu
 pub place_file-requires-clause-room : goal.place_file-requires-clause-room
 place_file-requires-clause-room g c =
     let limits = c.args.limits.now in
-    let most = same_placed c.requires.image ∙ stored_placed limits c.requires.range in
-    omega (arith, most, few_taken (length c.args.bytes.now) (omega (arith, c.requires.short, stored_limit_le limits c.requires.range)))
+    omega (arith, same_placed c.requires.image, few_taken limits (length c.args.bytes.now) c.requires.range c.requires.short)
 
 pub mark_homes-requires-clause-homes : goal.mark_homes-requires-clause-homes
 mark_homes-requires-clause-homes g c =

@@ -1,45 +1,70 @@
-use Rattle.std.proofs.Common.{arith}
-use Rattle.lis_kept.proofs.Common.{◌≡◌, ◌≤◌, ◌+◌, ◌<◌, ℕ, length, sym, ap, ◌∙◌, subst, Held, Limits, data_start}
+use Rattle.std.proofs.Common.{arith, ◌-◌}
+use Rattle.lis_kept.proofs.Common.{◌≡◌, ◌≤◌, ◌+◌, ◌<◌, ℕ, false, length, sym, ap, ◌∙◌, subst, Held, Limits, data_start}
 use Rattle.lis_model.specs.Image.{properties_start}
 use Rattle.lis_kept.specs.Metadata.{Metadata}
+use Rattle.lis_kept.specs.Areas.{is_marked}
 use Rattle.lis_journal.specs.Journal.{Shape}
 use Rattle.lis_kept.specs.Inside.{StagedBelow}
-use Rattle.lis_kept.proofs.Staged.{staged_none, staged_past, staged_more, staged_all, marks_before}
-use Rattle.lis_kept.proofs.metadata.Metadata.stage.Goals.{then-is_marked, else-is_marked}
+use Rattle.lis_kept.specs.Sound.{AreSound}
+use Rattle.lis_kept.proofs.Staged.{staged_none, staged_more, staged_over, staged_all, marks_before}
 use Rattle.lis_kept.proofs.metadata.Metadata.stage.Goals as goal
 
--- the first block
-first : (k : Metadata) (limits : Limits) (n : ℕ) → limits ≡ k.limits → n ≡ properties_start limits → n ≡ properties_start k.limits
-first k limits n is at = at ∙ ap properties_start is
+-- no block up to a later one is marked
+skipped : (k : Metadata) (old now : Held) (from n : ℕ) → from ≤ n → n ≤ length k.marks → properties_start k.limits ≤ from → ((j : ℕ) → from ≤ j → j < n → is_marked k j ≡ false)
+    → StagedBelow k from old now → StagedBelow k n old now
+skipped k old now from n le within low none so_far =
+    let same : (n - from) + from ≡ n = omega (arith, le) in
+    subst (λ m. StagedBelow k m old now) same (staged_over k old now from (n - from) (omega (arith, within, same)) low (λ j ge lt. none j ge (omega (arith, lt, same))) so_far)
 
-pub loop-n-init : goal.loop-n-init
-loop-n-init c =
+-- the blocks before the data blocks have marks
+end_within : (k : Metadata) (limits : Limits) (end : ℕ) → limits ≡ k.limits → end ≡ data_start limits → AreSound k → end ≤ length k.marks
+end_within k limits end is at sound = omega (arith, at, ap data_start is, sound.marks)
+
+pub loop-from-init : goal.loop-from-init
+loop-from-init c =
     let k = c.args.self.now in
+    let start : c.properties_start-from.result ≡ properties_start k.limits = c.properties_start-from.ensures ∙ ap properties_start c.limits-2.ensures.value in
     let P : ℕ → Type 0 = λ n. StagedBelow k n c.args.journal.now c.args.journal.now in
-    subst P (sym (first k c.limits-2.result.now c.properties_start-n.result c.limits-2.ensures.value c.properties_start-n.ensures)) (staged_none k c.args.journal.now c.limits.ensures.sound.range)
+    (omega (arith, start), subst P (sym start) (staged_none k c.args.journal.now c.limits.ensures.sound.range))
 
 pub stage_block-requires-clause-room : goal.stage_block-requires-clause-room
 stage_block-requires-clause-room c =
-    let lt : c.loop-n.n < length c.args.self.now.marks = omega (arith, c.loop-n-test.true, c.data_start-end.ensures.start, ap data_start c.limits.ensures.value, c.limits.ensures.sound.marks) in
-    omega (arith, c.requires.room, c.loop-n.invariant.few, marks_before c.args.self.now c.loop-n.n lt (sym c.is_marked.ensures ∙ c.if-is_marked.true), ap (λ (s : Shape). s.capacity.staged) c.loop-n.invariant.image)
-
-pub loop-n-preserved : goal.loop-n-preserved
-loop-n-preserved c =
     let k = c.args.self.now in
-    let n = c.loop-n.n in
+    let n = c.in-Some.n in
+    let below : n < length k.marks = c.in-Some.ensures.below in
+    let so_far = skipped k c.args.journal.now c.loop-from.journal c.loop-from.from n c.in-Some.ensures.from (omega (arith, below)) c.loop-from.invariant.0 c.in-Some.ensures.least c.loop-from.invariant.1 in
+    omega (arith, c.requires.room, so_far.few, marks_before k n below c.in-Some.ensures.marked, ap (λ (s : Shape). s.capacity.staged) c.loop-from.invariant.1.image)
+
+pub loop-from-preserved : goal.loop-from-preserved
+loop-from-preserved c =
+    let k = c.args.self.now in
+    let n = c.in-Some.n in
     let old = c.args.journal.now in
-    let now = c.loop-n.journal in
-    let P : Held → Type 0 = λ j. StagedBelow k (n + 1) old j in
-    let lt : n < length k.marks = omega (arith, c.loop-n-test.true, c.data_start-end.ensures.start, ap data_start c.limits.ensures.value, c.limits.ensures.sound.marks) in
-    let from : properties_start k.limits ≤ n = omega (arith, c.loop-n.auto.n, first k c.limits-2.result.now c.properties_start-n.result c.limits-2.ensures.value c.properties_start-n.ensures) in
-    elim c.if-is_marked.branch [
-      | then-is_marked w ↦ subst P (sym w.journal-is) (staged_more k n old now lt from c.loop-n.invariant w.stage_block.new.journal (sym c.is_marked.ensures ∙ w.if-is_marked.true) w.stage_block.ensures)
-      | else-is_marked w ↦ subst P (sym w.journal-is) (staged_past k n old now lt from c.loop-n.invariant (sym c.is_marked.ensures ∙ w.if-is_marked.false))
-    ]
+    let now = c.loop-from.journal in
+    let below : n < length k.marks = c.in-Some.ensures.below in
+    let so_far = skipped k old now c.loop-from.from n c.in-Some.ensures.from (omega (arith, below)) c.loop-from.invariant.0 c.in-Some.ensures.least c.loop-from.invariant.1 in
+    (omega (arith, c.loop-from.invariant.0, c.in-Some.ensures.from), staged_more k n old now below (omega (arith, c.loop-from.invariant.0, c.in-Some.ensures.from)) so_far c.stage_block.new.journal c.in-Some.ensures.marked c.stage_block.ensures)
+
+pub returns-in_default-clause-staged : goal.returns-in_default-clause-staged
+returns-in_default-clause-staged c =
+    let k = c.args.self.now in
+    let at : c.data_start-end.result ≡ data_start k.limits = c.data_start-end.ensures.start ∙ ap data_start c.limits.ensures.value in
+    let within = end_within k k.limits c.data_start-end.result (ap (λ (l : Limits). l) (sym c.limits.ensures.value ∙ c.limits.ensures.value)) at c.limits.ensures.sound in
+    let all = skipped k c.args.journal.now c.loop-from.journal c.loop-from.from c.data_start-end.result (omega (arith, c.loop-from-test.true)) within c.loop-from.invariant.0
+        (λ j ge lt. c.in_default.ensures.none j ge (omega (arith, lt, within))) c.loop-from.invariant.1 in
+    staged_all k c.data_start-end.result c.args.journal.now c.loop-from.journal c.limits.ensures.sound.range at all
+
+pub returns-then-n-end-clause-staged : goal.returns-then-n-end-clause-staged
+returns-then-n-end-clause-staged c =
+    let k = c.args.self.now in
+    let at : c.data_start-end.result ≡ data_start k.limits = c.data_start-end.ensures.start ∙ ap data_start c.limits.ensures.value in
+    let within = end_within k k.limits c.data_start-end.result (ap (λ (l : Limits). l) (sym c.limits.ensures.value ∙ c.limits.ensures.value)) at c.limits.ensures.sound in
+    let all = skipped k c.args.journal.now c.loop-from.journal c.loop-from.from c.data_start-end.result (omega (arith, c.loop-from-test.true)) within c.loop-from.invariant.0
+        (λ j ge lt. c.in-Some.ensures.least j ge (omega (arith, lt, c.if-n-end.true))) c.loop-from.invariant.1 in
+    staged_all k c.data_start-end.result c.args.journal.now c.loop-from.journal c.limits.ensures.sound.range at all
 
 pub returns-clause-staged : goal.returns-clause-staged
 returns-clause-staged c =
-    let is = c.data_start-end.ensures.start ∙ ap data_start c.limits.ensures.value in
-    let start = first c.args.self.now c.limits-2.result.now c.properties_start-n.result c.limits-2.ensures.value c.properties_start-n.ensures in
-    staged_all c.args.self.now c.loop-n.n c.args.journal.now c.loop-n.journal c.limits.ensures.sound.range
-    (omega (arith, is, c.loop-n.auto.n-end (omega (arith, is, start)), c.loop-n-test.false)) c.loop-n.invariant
+    let k = c.args.self.now in
+    let at : c.data_start-end.result ≡ data_start k.limits = c.data_start-end.ensures.start ∙ ap data_start c.limits.ensures.value in
+    search
