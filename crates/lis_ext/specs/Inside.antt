@@ -1,5 +1,5 @@
 -- The fields of an `Ext`, and what the functions over them do. No public clause cites this module.
-use Rattle.std.specs.Prelude.{◌≡◌, ℕ, ◌+◌, ◌<◌, ◌≤◌, Bool, not, ◌&&◌, ◌||◌, ◌==◌, if◌then◌else◌, All, List, [], length, slice_index, slice_index_or}
+use Rattle.std.specs.Prelude.{◌≡◌, ◌⊎◌, ℕ, ◌+◌, ◌<◌, ◌≤◌, Bool, not, ◌&&◌, ◌||◌, ◌==◌, if◌then◌else◌, All, List, [], length, slice_index, slice_index_or}
 use Rattle.std.specs.List.Sorted.{IsStrictlyIncreasing}
 use Rattle.lis_limits.specs.declared.TheConstants.{V3_MAX_FILES, V3_MAX_PROPS}
 use Rattle.lis_bits.specs.Rows.{Rows, HasShape, get}
@@ -35,15 +35,23 @@ seen lists rows marks props = record { props = props; sets = lists; marks = numb
 abbrev pub AreInStep : List (List ℕ) → Rows → ℕ → ℕ → Type 0
 AreInStep lists rows props files = (p i : ℕ) → p < props → i < files → get rows p i ≡ has_number (slice_index_or lists i []) p
 
--- what the fields keep
-pub record IsSoundExt (lists : List (List ℕ)) (counts : List ℕ) (rows marks : Rows) (props files : ℕ) : Type 0 where
+-- the list of the file has the number
+abbrev pub has_in : List (List ℕ) → ℕ → ℕ → Bool
+has_in lists p i = has_number (slice_index_or lists i []) p
+
+abbrev pub ListsRise : List (List ℕ) → Type 0
+ListsRise lists = (i : ℕ) → i < length lists → IsStrictlyIncreasing (slice_index_or lists i [])
+
+-- what the fields keep: there are rows of all numbers, or of none
+pub record IsSoundExt (lists : List (List ℕ)) (counts : List ℕ) (rows marks : Rows) (props files kept : ℕ) : Type 0 where
   pub few_props : props ≤ V3_MAX_PROPS
   pub few_files : files ≤ V3_MAX_FILES
   pub long : length lists ≡ files
-  pub rows_shape : HasShape rows props files
+  pub all_or_none : (kept ≡ 0) ⊎ (kept ≡ props)
+  pub rows_shape : HasShape rows kept files
   pub marks_shape : HasShape marks 1 props
   pub room : length counts ≡ props
   pub rise : (i : ℕ) → i < files → IsStrictlyIncreasing (slice_index_or lists i [])
   pub in_range : (i : ℕ) → i < files → All (λ p. p < props) (slice_index_or lists i [])
   pub counted : (p : ℕ) → p < props → slice_index counts p ≡ count_of lists p
-  pub in_step : AreInStep lists rows props files
+  pub in_step : AreInStep lists rows kept files

@@ -1,10 +1,11 @@
-ghost use Rattle.std.specs.Prelude.{◌≡◌, ℕ, ◌+◌, ◌*◌, ◌%◌, ◌<◌, ◌≤◌, ◌↔◌, ◌&&◌, All, [], length, slice_get, slice_set, slice_index, IfOk, IsTrue};
+ghost use Rattle.std.specs.Prelude.{◌≡◌, ℕ, ◌+◌, ◌*◌, ◌%◌, ◌^◌, ◌⊎◌, ◌<◌, ◌≤◌, ◌↔◌, ◌&&◌, All, [], length, slice_get, slice_set, slice_index, IfOk, IsTrue};
 ghost use Rattle.std.specs.List.{list_any};
 ghost use Rattle.std.specs.List.Sorted.{IsStrictlyIncreasing};
-ghost use Rattle.lis_bits.specs.Rows.{HasShape, get, with_row};
+ghost use Rattle.lis_bits.specs.Rows.{get, SetsBits};
 ghost use Rattle.lis_bits.specs.Bytes.{bits_bytes};
 ghost use Rattle.lis_ext.specs.Numbers.{differs, has_number, numbers_where};
 
+use crate::by_list;
 use crate::lists::Lists;
 use crate::tables;
 use lis_bits::{Rows, and_row, copy_row, within};
@@ -18,7 +19,8 @@ use std::marker::Model;
 pub struct Ext {
     props: u32,
     files: u32,
-    // Row p has bit i if file i has the number p: the lists, by number. Images are spelled from them.
+    // There are rows of all numbers, or of none: row p has bit i if file i has the number p.
+    kept: u32,
     rows: Rows,
     // The numbers of each file, in rising order.
     lists: Lists,
@@ -37,13 +39,13 @@ impl Model for Ext {
 
     ghost view = { λ e. seen e.lists e.rows e.marks e.props };
 
-    ghost invariant = { λ e. IsSoundExt e.lists e.counts.items e.rows e.marks e.props e.files };
+    ghost invariant = { λ e. IsSoundExt e.lists e.counts.items e.rows e.marks e.props e.files e.kept };
 }
 
 impl Ext {
     ghost use Rattle.lis_ext.specs.Ext.{has, set_of, count_of, count_where, empty_ext, with_marks, IsKept};
 
-    /// Empty sets of `files` files.
+    /// Empty sets of `files` files. There is no row of bits for a number: what is asked of all files that have it takes a look at each file.
     pub fn new(alloc: Global, props: u32, files: u32) -> Result<Ext, AllocError>
         requires whole_words { files % 64 ≡ 0 }
         requires whole_marks { props % 64 ≡ 0 }
@@ -51,10 +53,36 @@ impl Ext {
         requires few_files { files ≤ V3_MAX_FILES }
         ensures { IfOk result (λ made. made ≡ empty_ext props files) }
     {
+        Ext::with_kept(alloc, props, files, 0)
+    }
+
+    /// The same with a row of bits for each number, which takes `props` times `files` bits.
+    pub fn with_rows(alloc: Global, props: u32, files: u32) -> Result<Ext, AllocError>
+        requires whole_words { files % 64 ≡ 0 }
+        requires whole_marks { props % 64 ≡ 0 }
+        requires few_props { props ≤ V3_MAX_PROPS }
+        requires few_files { files ≤ V3_MAX_FILES }
+        requires few_bits { props * files ≤ 2 ^ 27 }
+        ensures { IfOk result (λ made. made ≡ empty_ext props files) }
+    {
+        Ext::with_kept(alloc, props, files, props)
+    }
+
+    // Empty sets, with rows for so many numbers.
+    fn with_kept(alloc: Global, props: u32, files: u32, kept: u32) -> Result<Ext, AllocError>
+        requires whole_words { files % 64 ≡ 0 }
+        requires whole_marks { props % 64 ≡ 0 }
+        requires few_props { props ≤ V3_MAX_PROPS }
+        requires few_files { files ≤ V3_MAX_FILES }
+        requires kept { (kept ≡ 0) ⊎ (kept ≡ props) }
+        requires few_bits { kept * files ≤ 2 ^ 27 }
+        ensures { IfOk result (λ made. made ≡ empty_ext props files) }
+    {
         Ok(Ext {
             props,
             files,
-            rows: Rows::new(alloc, props, files)?,
+            kept,
+            rows: Rows::new(alloc, kept, files)?,
             lists: Lists::new(alloc, files)?,
             counts: vec![in alloc; 0; props as usize]?,
             marks: Rows::new(alloc, 1, props)?,
@@ -79,9 +107,11 @@ impl Ext {
         let old = self.lists.numbers(file);
         tables::lose(&mut self.counts, &mut self.marks, self.props, old, new);
         tables::gain(&mut self.counts, &mut self.marks, self.props, new, old);
-        let (props, files) = (self.props, self.files);
-        tables::put_bits(&mut self.rows, props, files, file, old, new, false);
-        tables::put_bits(&mut self.rows, props, files, file, new, old, true);
+        if self.kept == self.props {
+            let (props, files) = (self.props, self.files);
+            tables::put_bits(&mut self.rows, props, files, file, old, new, false);
+            tables::put_bits(&mut self.rows, props, files, file, new, old, true);
+        }
         self.lists.set(file, new);
     }
 
@@ -106,7 +136,7 @@ impl Ext {
         requires file { file < length self.now.sets }
         ensures { result ≡ has self.now prop file }
     {
-        self.rows.get(prop, file)
+        by_list::is_among(self.lists.numbers(file), prop)
     }
 
     /// The numbers of a file, in rising order. The contract also says what each `Ext` keeps.
@@ -170,7 +200,10 @@ impl Ext {
         ensures { IsTrue result
             ↔ ((i : ℕ) → i < length self.now.sets → IsTrue (get found.now 0 i) → IsTrue (has self.now prop i)) }
     {
-        within(found, 0, &self.rows, prop)
+        if prop < self.kept {
+            return within(found, 0, &self.rows, prop);
+        }
+        by_list::all_have(&self.lists, self.files, prop, found)
     }
 
     /// Keeps in a row only the files that have a number.
@@ -178,9 +211,13 @@ impl Ext {
         requires prop { prop < self.now.props }
         requires bits { to.old.bits ≡ length self.now.sets }
         requires row { row < length to.old.rows }
-        ensures { to.new ≡ with_row to.old row (λ bit. get to.old row bit && has self.now prop bit) }
+        ensures { SetsBits to.old to.new (length to.old.rows) to.old.bits row (λ bit. get to.old row bit && has self.now prop bit) }
     {
-        and_row(&self.rows, prop, to, row);
+        if prop < self.kept {
+            and_row(&self.rows, prop, to, row);
+            return;
+        }
+        by_list::and_row(&self.lists, self.files, prop, to, row);
     }
 
     /// Writes the files that have a number into a row.
@@ -188,9 +225,13 @@ impl Ext {
         requires prop { prop < self.now.props }
         requires bits { to.old.bits ≡ length self.now.sets }
         requires row { row < length to.old.rows }
-        ensures { to.new ≡ with_row to.old row (has self.now prop) }
+        ensures { SetsBits to.old to.new (length to.old.rows) to.old.bits row (has self.now prop) }
     {
-        copy_row(&self.rows, prop, to, row);
+        if prop < self.kept {
+            copy_row(&self.rows, prop, to, row);
+            return;
+        }
+        by_list::copy_row(&self.lists, self.files, prop, to, row);
     }
 
     /// The k-th marked number in rising order, counted from 0.
@@ -207,16 +248,7 @@ impl Ext {
         self.marks.fill(0, false);
     }
 
-    /// The rows by number: row p has bit i exactly if file i has the number p.
-    pub fn rows(&self) -> &Rows
-        ensures shape { HasShape result.now self.now.props (length self.now.sets) }
-        ensures values { (p i : ℕ) → p < self.now.props → i < length self.now.sets → get result.now p i ≡ has self.now p i }
-        ensures edits { result.now.edits ≡ self.now.edits }
-    {
-        &self.rows
-    }
-
-    /// How many edits of the rows there were since `new`: at most as many as the times that a file got or lost a number. The count stays at
+    /// How many edits of the rows there were since they were made, none if there are no rows: at most as many as the times that a file got or lost a number. The count stays at
     /// its largest value, 2^64 - 1.
     pub fn edits(&self) -> u64
         ensures { result ≡ self.now.edits }
@@ -230,7 +262,11 @@ impl Ext {
         requires room { 8 * length buf.old ≡ length self.now.sets }
         ensures { buf.new ≡ bits_bytes (length buf.old) (has self.now prop) }
     {
-        self.rows.row_bytes(prop, buf);
+        if prop < self.kept {
+            self.rows.row_bytes(prop, buf);
+            return;
+        }
+        by_list::write_bits(&self.lists, prop, buf);
     }
 
     /// Whether the bytes are those of the files that have a number, as `row_bytes` writes them.
@@ -239,6 +275,9 @@ impl Ext {
         requires room { 8 * length bytes.now ≡ length self.now.sets }
         ensures { IsTrue result ↔ bytes.now ≡ bits_bytes (length bytes.now) (has self.now prop) }
     {
-        self.rows.has_bytes(prop, bytes)
+        if prop < self.kept {
+            return self.rows.has_bytes(prop, bytes);
+        }
+        by_list::has_bits(&self.lists, prop, bytes)
     }
 }

@@ -2,6 +2,7 @@
 //! set edits the rows at most as many times as there are numbers that the file gets or loses.
 #![tactic(auto)]
 
+mod by_list;
 mod ext;
 mod lists;
 mod tables;

@@ -4,15 +4,8 @@ ghost use Rattle.lis_bits.specs.Rows.{HasShape, get};
 ghost use Rattle.lis_ext.specs.Numbers.{has_number, numbers_where};
 ghost use Rattle.lis_ext.specs.Inside.{CountsUp, Touches, PutsBits, has_alone};
 
+use crate::by_list::is_among;
 use lis_bits::Rows;
-
-// Whether the number is one of these, which rise.
-fn is_among(numbers: &[u32], number: u32) -> bool
-    requires { IsStrictlyIncreasing numbers.now }
-    ensures { result ≡ has_number numbers.now number }
-{
-    numbers.binary_search(&number).is_ok()
-}
 
 // Adds one to the count of each number that is none of the others, and marks the number.
 pub(crate) fn gain(

@@ -196,7 +196,7 @@ pub record BitFails (limits : Limits) (at : ℕ → List ℕ) (n : ℕ) : Type 0
 -- what may be wrong with a row
 pub data RowFault (limits : Limits) (at : ℕ → List ℕ) (contents : Contents) (n : ℕ) : Type 0 where
   -- some bit is wrong: it does not show whether a file's description has the word
-  RowWrong : n < limits.props → slot (row_slots limits) at n ≢ bits_bytes (limits.files / 8) (row_bit (spelled_state limits contents at) limits contents at n)
+  RowWrong : n < limits.props → n < (row_slots limits).count → slot (row_slots limits) at n ≢ bits_bytes (limits.files / 8) (row_bit (spelled_state limits contents at) limits contents at n)
       → RowFault limits at contents n
   -- the rest of the part after the last row is not zero
   RestNotZero : n ≡ limits.props → (p : ℕ) → limits.props ≤ p → p < (row_slots limits).count → slot (row_slots limits) at p ≢ zeros (limits.files / 8)
@@ -205,14 +205,12 @@ pub data RowFault (limits : Limits) (at : ℕ → List ℕ) (contents : Contents
 -- A row does not show which file's description has its word. Or the rest of the part is not zero, which counts as the row after the last
 -- one.
 pub record RowFails (limits : Limits) (at : ℕ → List ℕ) (n : ℕ) : Type 0 where
-  pub before_third : limits.version ≢ 3
   pub contents : Contents
   pub are : AreContents limits at contents
   pub fault : RowFault limits at contents n
 
 -- A set does not have exactly the numbers of the words of its file's description; that of a free slot is zero.
 pub record SetFails (limits : Limits) (at : ℕ → List ℕ) (n : ℕ) : Type 0 where
-  pub third : limits.version ≡ 3
   pub below : n < (set_slots limits).count
   pub contents : Contents
   pub are : AreContents limits at contents

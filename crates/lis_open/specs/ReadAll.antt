@@ -5,15 +5,16 @@ use Rattle.lis_bits.specs.Rows.{HasShape}
 use Rattle.lis_slots.specs.Slots.{slot}
 use Rattle.lis_blockmap.specs.Bitmap.{is_taken}
 use Rattle.lis_dict.specs.Dict.{word_of}
-use Rattle.lis_ext.specs.Ext.{Ext}
+use Rattle.lis_ext.specs.Ext.{Ext, set_of}
 use Rattle.lis_model.specs.declared.limits.Limits.{Limits}
 use Rattle.lis_model.specs.declared.spot.Spot.{Spot}
-use Rattle.lis_model.specs.declared.spot.Spot.TheVariants.{Word, Bitmap, Row}
+use Rattle.lis_model.specs.declared.spot.Spot.TheVariants.{Word, Bitmap, Row, Set}
 use Rattle.lis_model.specs.Image.{bitmap_blocks, data_start}
 use Rattle.lis_model.specs.State.{State}
 use Rattle.lis_kept.specs.Metadata.{Metadata, metadata_of}
-use Rattle.lis_kept.specs.Areas.{IsWritten, AreBitmapBlocks, axiom_slots, row_slots}
+use Rattle.lis_kept.specs.Areas.{IsWritten, AreBitmapBlocks, axiom_slots, row_slots, set_slots}
 use Rattle.lis_kept.specs.Rows.{row_bytes}
+use Rattle.lis_fields.specs.Layouts.{set_bytes}
 use Rattle.lis_kept.specs.Telling.{Tells, is_used}
 use Rattle.lis_store.specs.Stored.{Stored}
 use Rattle.lis_open.specs.declared.mounting.OpenFault.{OpenFault}
@@ -112,6 +113,26 @@ abbrev pub RowsChecked : {T : Type 0} → Limits → (ℕ → List ℕ) → Ext 
 RowsChecked limits at ext (Ok done) = (p : ℕ) → p < (row_slots limits).count → IsRowSpelled limits at ext p
 RowsChecked limits at ext (Err fault) = RowDiffers limits at ext fault
 
+-- ---- sets
+-- a set is spelled as the metadata requires
+abbrev pub IsSetSpelled : Limits → (ℕ → List ℕ) → Ext → ℕ → Type 0
+IsSetSpelled limits at ext i = slot (set_slots limits) at i ≡ set_bytes (set_of ext i)
+
+pub record IsFirstSet (limits : Limits) (at : ℕ → List ℕ) (ext : Ext) (i : ℕ) : Type 0 where
+  pub below : i < (set_slots limits).count
+  pub differs : IsSetSpelled limits at ext i → ⊥
+  pub same_before : (j : ℕ) → j < i → IsSetSpelled limits at ext j
+
+abbrev pub SetDiffers : Limits → (ℕ → List ℕ) → Ext → OpenFault → Type 0
+SetDiffers limits at ext (Damaged spot) = (i : ℕ) × (spot ≡ Set i) × IsFirstSet limits at ext i
+SetDiffers limits at ext DiskFault = Unit {0}
+SetDiffers limits at ext NoMemory = ⊥
+SetDiffers limits at ext (TooShort len need) = ⊥
+
+abbrev pub SetsChecked : {T : Type 0} → Limits → (ℕ → List ℕ) → Ext → Result T OpenFault → Type 0
+SetsChecked limits at ext (Ok done) = (i : ℕ) → i < (set_slots limits).count → IsSetSpelled limits at ext i
+SetsChecked limits at ext (Err fault) = SetDiffers limits at ext fault
+
 -- ---- all parts
 -- words, axioms and files of all slots
 pub record AreSlotsRead (limits : Limits) (words : Words) (axioms : Axioms) (files : Files) : Type 0 where
@@ -152,6 +173,7 @@ pub record AreSpelled (limits : Limits) (at : ℕ → List ℕ) (words : Words) 
   pub records : FilesAreTold limits at words axioms files
   pub bitmap : AreBitmapBlocks limits at files.map
   pub rows : (p : ℕ) → p < (row_slots limits).count → IsRowSpelled limits at files.ext p
+  pub sets : (i : ℕ) → i < (set_slots limits).count → IsSetSpelled limits at files.ext i
 
 -- how reading all parts ended
 abbrev pub PartsEnded : {T : Type 0} → Limits → (ℕ → List ℕ) → Words → Axioms → Files → Result T OpenFault → Type 0

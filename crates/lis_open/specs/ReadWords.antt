@@ -1,6 +1,6 @@
 -- What is read of words and axioms. No public clause cites this module.
 use Rattle.std.specs.Prelude.{◌≡◌, ◌⊎◌, ℕ, ◌≤◌, ◌<◌, nat_lt, Bool, true, false, not, ◌&&◌, ◌||◌, is_some, Option, Some, None, Result, Ok, Err, List, [], filter, length, replicate, slice_get, slice_index_or, slice_set, IsTrue, IsSome}
-use Rattle.lis_limits.specs.declared.TheConstants.{MAX_PROPS}
+use Rattle.lis_limits.specs.declared.TheConstants.{V3_MAX_PROPS}
 use Rattle.lis_slots.specs.Slots.{slot}
 use Rattle.lis_blockmap.specs.Bitmap.{is_taken}
 use Rattle.lis_dict.specs.Dict.{Dict, IsDict, number_of, word_of, words as words_of}
@@ -74,7 +74,7 @@ pub record SlotsEnded (limits : Limits) (at : ℕ → List ℕ) (slots : WordSlo
 -- what holds of words however they were read
 pub record AreWords (words : Words) : Type 0 where
   pub dict : IsDict words.dict
-  pub few : words.dict.props ≤ MAX_PROPS
+  pub few : words.dict.props ≤ V3_MAX_PROPS
   pub long : length words.declared ≡ words.dict.props
   pub forms : (n : ℕ) → IsTrue (is_prop (property_at words.dict words.declared n))
   -- what is declared has a word

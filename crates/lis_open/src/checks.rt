@@ -1,4 +1,4 @@
-//! What else must hold of an image: each word is in use, and the bitmap and the rows are right.
+//! What else must hold of an image: each word is in use, and the bitmap, the rows and the sets are right.
 
 ghost use Rattle.std.specs.Prelude.{◌≡◌, ◌↔◌, ◌+◌, ◌/◌, ◌<◌, ◌≤◌, ◌||◌, ◌&&◌, not, is_some, ℕ, Bool, List, length, false, Some, slice_get, IsTrue, IfOk, IfNone, IfSome};
 ghost use Rattle.std.specs.List.{list_any};
@@ -7,17 +7,18 @@ ghost use Rattle.lis_journal.specs.Images.{Fits};
 ghost use Rattle.lis_bits.specs.Rows.{HasShape, get};
 ghost use Rattle.lis_blockmap.specs.Bitmap.{is_taken, bitmap_bytes, IsFirstDifference};
 ghost use Rattle.lis_dict.specs.Dict.{word_of};
-ghost use Rattle.lis_ext.specs.Ext.{has};
+ghost use Rattle.lis_ext.specs.Ext.{has, set_of};
+ghost use Rattle.lis_fields.specs.Layouts.{set_bytes};
 ghost use Rattle.lis_fields.specs.declared.slots.AxiomSlot.TheVariants.{Pair};
 ghost use Rattle.lis_model.specs.Ranges.{are_in_range};
 ghost use Rattle.lis_model.specs.Image.{bitmap_start, bitmap_blocks};
-ghost use Rattle.lis_kept.specs.Areas.{axiom_slots, row_slots};
+ghost use Rattle.lis_kept.specs.Areas.{axiom_slots, row_slots, set_slots};
 ghost use Rattle.lis_kept.specs.Rows.{row_bytes};
 ghost use Rattle.lis_kept.specs.Telling.{is_had, is_left_of, is_left_head_of};
 ghost use Rattle.lis_open.specs.Reading.{Recalls, ReadsPart, IsReadable};
 ghost use Rattle.lis_open.specs.ReadWords.{AreWords, AreFirstWords, AreFirstAxioms};
 ghost use Rattle.lis_open.specs.ReadFiles.{AreFiles};
-ghost use Rattle.lis_open.specs.ReadAll.{metadata_in, WordsChecked, BitmapChecked, IsRowSpelled, RowsChecked};
+ghost use Rattle.lis_open.specs.ReadAll.{metadata_in, WordsChecked, BitmapChecked, IsRowSpelled, RowsChecked, IsSetSpelled, SetsChecked};
 
 use crate::axioms::{Axioms, head_number};
 use crate::blocks::LastBlock;
@@ -27,15 +28,15 @@ use crate::words::Words;
 use lis_bits::Rows;
 use lis_blockmap::BlockMap;
 use lis_ext::Ext;
-use lis_fields::{AxiomSlot, are_zeros};
+use lis_fields::{AxiomSlot, are_zeros, write_set};
 use lis_journal::Journal;
 use lis_kept::{bitmap_start, descriptions_start};
-use lis_limits::{BLOCK_BITS, BLOCK_LEN, MAX_FILES};
+use lis_limits::{BLOCK_BITS, BLOCK_LEN, MAX_FILES, SET_LEN};
 use lis_model::limits::{Limits, bitmap_blocks};
 use lis_model::spot::Spot;
 use lis_ports::{Disk, Failed};
 
-/// How many bytes a row has if the image has the most files.
+/// How many bytes a row has if the image has the most files. In version 3 there are no rows.
 const MAX_ROW: usize = MAX_FILES as usize / 8;
 
 // Marks the left side of an axiom, and its head if it is valued.
@@ -166,6 +167,9 @@ fn row_count(limits: &Limits) -> u32
     requires { IsTrue (are_in_range limits.now) }
     ensures { result ≡ (row_slots limits.now).count }
 {
+    if limits.version == 3 {
+        return 0;
+    }
     let per_block = BLOCK_LEN as u32 / (limits.files / 8);
     per_block * (bitmap_start(limits) - descriptions_start(limits))
 }
@@ -230,6 +234,67 @@ pub fn check_rows<D: Disk>(
     for p in 0..row_count(limits) {
         if !read_row(last, disk, journal, limits, ext, p)? {
             return Err(OpenFault::Damaged(Spot::Row(p.min(limits.props))));
+        }
+    }
+    Ok(())
+}
+
+// How many sets the image has.
+fn set_count(limits: &Limits) -> u32
+    ensures { result ≡ (set_slots limits.now).count }
+{
+    if limits.version == 3 { limits.files } else { 0 }
+}
+
+// Whether the bytes are those of the set of the file in a slot.
+fn is_set(ext: &Ext, slot: u32, bytes: &[u8]) -> bool
+    requires slot { slot < length ext.now.sets }
+    ensures { IsTrue result ↔ (bytes.now ≡ set_bytes (set_of ext.now slot)) }
+{
+    let mut spelled = [0; SET_LEN];
+    write_set(ext.numbers(slot), &mut spelled);
+    bytes == spelled.as_slice()
+}
+
+// Whether set i is spelled as memory requires.
+fn read_set<D: Disk>(
+    last: &mut LastBlock,
+    disk: &mut D,
+    journal: &Journal,
+    limits: &Limits,
+    ext: &Ext,
+    i: u32,
+) -> Result<bool, Failed>
+    requires readable { IsReadable limits.now journal.now (D.meaning disk.old) }
+    requires i { i < (set_slots limits.now).count }
+    requires files { length ext.now.sets ≡ limits.now.files }
+    ensures disk { ReadsDisk (D.meaning disk.old) (D.meaning disk.new) result }
+    ensures recalls { (kept : ℕ → List ℕ) → Fits journal.now (D.meaning disk.old) kept → Recalls last.old kept → Recalls last.new kept }
+    ensures read { IfOk result (λ is_same. (kept : ℕ → List ℕ) → Fits journal.now (D.meaning disk.old) kept → Recalls last.old kept
+        → (IsTrue is_same ↔ IsSetSpelled limits.now kept ext.now i)) }
+{
+    let mut bytes = [0; SET_LEN];
+    last.read_slot(disk, journal, descriptions_start(limits), i, &mut bytes)?;
+    Ok(is_set(ext, i, &bytes))
+}
+
+/// Checks that each set has the numbers of the words of its file's description.
+pub fn check_sets<D: Disk>(
+    last: &mut LastBlock,
+    disk: &mut D,
+    journal: &Journal,
+    limits: &Limits,
+    ext: &Ext,
+) -> Result<(), OpenFault>
+    requires readable { IsReadable limits.now journal.now (D.meaning disk.old) }
+    requires files { length ext.now.sets ≡ limits.now.files }
+    ensures disk { ReadsPart (D.meaning disk.old) (D.meaning disk.new) result }
+    ensures ended { (kept : ℕ → List ℕ) → Fits journal.now (D.meaning disk.old) kept → Recalls last.old kept
+        → SetsChecked limits.now kept ext.now result }
+{
+    for i in 0..set_count(limits) {
+        if !read_set(last, disk, journal, limits, ext, i)? {
+            return Err(OpenFault::Damaged(Spot::Set(i)));
         }
     }
     Ok(())

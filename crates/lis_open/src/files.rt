@@ -10,6 +10,7 @@ ghost use Rattle.lis_journal.specs.Images.{Fits};
 ghost use Rattle.lis_content.specs.Content.{marked, are_free};
 ghost use Rattle.lis_dict.specs.Dict.{number_of};
 ghost use Rattle.lis_taxonomy.specs.Search.{is_found};
+ghost use Rattle.lis_ext.specs.Ext.{empty_ext};
 ghost use Rattle.lis_ext.specs.Numbers.{numbers_where};
 ghost use Rattle.lis_fields.specs.Layouts.{file_bytes, is_file, is_record};
 ghost use Rattle.lis_words.specs.Words.{test_of};
@@ -38,7 +39,7 @@ use lis_ext::Ext;
 use lis_fields::{FileRec, FileSlot, read_file};
 use lis_journal::Journal;
 use lis_kept::files_start;
-use lis_limits::{FILE_LEN, MAX_DESCRIPTION, MAX_PROPS};
+use lis_limits::{FILE_LEN, MAX_DESCRIPTION, V3_MAX_PROPS};
 use lis_model::derived::Derived;
 use lis_model::limits::Limits;
 use lis_model::met::is_met;
@@ -75,6 +76,17 @@ impl FileSlots {
     pub fn close(self) {}
 }
 
+// No file has a set yet. Before version 3 images are spelled from rows.
+fn no_sets(alloc: Global, limits: &Limits) -> Result<Ext, AllocError>
+    requires { IsTrue (are_in_range limits.now) }
+    ensures { IfOk result (λ made. made ≡ empty_ext limits.now.props limits.now.files) }
+{
+    if limits.version == 3 {
+        return Ext::new(alloc, limits.props, limits.files);
+    }
+    Ext::with_rows(alloc, limits.props, limits.files)
+}
+
 /// No slot is read yet.
 #[tactic(auto, unfolding(crate::specs::ReadFiles::no_files))]
 pub fn no_files(alloc: Global, limits: &Limits) -> Result<FileSlots, AllocError>
@@ -84,7 +96,7 @@ pub fn no_files(alloc: Global, limits: &Limits) -> Result<FileSlots, AllocError>
     Ok(FileSlots {
         unsorted: Unsorted::new(alloc, limits.files)?,
         map: BlockMap::new(alloc, limits.blocks)?,
-        ext: Ext::new(alloc, limits.props, limits.files)?,
+        ext: no_sets(alloc, limits)?,
     })
 }
 
@@ -130,7 +142,7 @@ fn is_met_word(words: &Words, word: &Word, number: u32, size: u64) -> bool
 
 // Finds the numbers.
 fn gather(numbers: &[u32], search: &mut Search)
-    requires { IsTrue (list_all (λ n. nat_lt n MAX_PROPS) numbers.now) }
+    requires { IsTrue (list_all (λ n. nat_lt n V3_MAX_PROPS) numbers.now) }
     ensures { Gathered search.old search.new numbers.now }
 {
     for number in numbers {
@@ -171,7 +183,7 @@ fn gather_met(words: &Words, size: u64, search: &mut Search)
 
 // The found numbers, in rising order. None comes if there are more than a description may have.
 fn list_numbers(search: &Search) -> Option<ArrayVec<u32, MAX_DESCRIPTION>>
-    ensures { (props : ℕ) → props ≤ MAX_PROPS → ((n : ℕ) → IsTrue (is_found search.now n) → n < props)
+    ensures { (props : ℕ) → props ≤ V3_MAX_PROPS → ((n : ℕ) → IsTrue (is_found search.now n) → n < props)
         → AreListed (numbers_where props (is_found search.now)) (option_map (λ listed. listed.items) result) }
 {
     let mut numbers = ArrayVec::new();

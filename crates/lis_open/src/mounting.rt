@@ -104,9 +104,6 @@ fn read_limits<D: Disk>(disk: &mut D) -> Result<Limits, OpenFault>
     let Some(limits) = read_super(&block) else {
         return Err(OpenFault::Damaged(Spot::Super));
     };
-    if limits.version > 2 {
-        return Err(OpenFault::Damaged(Spot::Super));
-    }
     let need = u64::from(image_blocks(&limits)) * BLOCK_LEN as u64;
     if len < need {
         return Err(OpenFault::TooShort(len, need));

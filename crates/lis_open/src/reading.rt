@@ -12,7 +12,7 @@ ghost use Rattle.lis_open.specs.ReadAll.{metadata_in, is_stray, IsEmptyMemory, I
 
 use crate::axioms::read_axioms;
 use crate::blocks::LastBlock;
-use crate::checks::{check_bitmap, check_rows, check_words};
+use crate::checks::{check_bitmap, check_rows, check_sets, check_words};
 use crate::files::{FileSlots, Files, Known, read_files};
 use crate::memory::{LaterMemory, OpeningMemory};
 use crate::mounting::OpenFault;
@@ -56,7 +56,7 @@ fn read_slots<D: Disk>(
     read_files(last, disk, known, slots, &mut memory.scratch)
 }
 
-// Checks what must hold after the slots: words are in use, and the bitmap and the rows are right.
+// Checks what must hold after the slots: words are in use, and the bitmap, the rows and the sets are right.
 fn check_parts<D: Disk>(
     last: &mut LastBlock,
     disk: &mut D,
@@ -79,7 +79,8 @@ fn check_parts<D: Disk>(
 {
     check_words(limits, words, &memory.axioms, files, &mut memory.row)?;
     check_bitmap(disk, journal, limits, &files.map)?;
-    check_rows(last, disk, journal, limits, &files.ext)
+    check_rows(last, disk, journal, limits, &files.ext)?;
+    check_sets(last, disk, journal, limits, &files.ext)
 }
 
 // Reads axioms and files, and checks what must hold after them.

@@ -42,10 +42,10 @@ fn write_gate<D: Disk>(disk: &mut D) -> Result<(), Failed>
     disk.sync()
 }
 
-/// Makes the image on a disk one of version 2. It opens the image first, and refuses it as `mount` does. Then it writes the gate, in a
+/// Makes the image on a disk one of version 2, unless it is of version 2 or 3 already. It opens the image first, and refuses it as `mount` does. Then it writes the gate, in a
 /// separate write, and syncs. All memory is allocated before.
 ///
-/// Whenever it stops, the image represents its state, or the same state in version 2, or is one that a crash could have left before.
+/// Whenever it stops, the image represents its state, or if that is of version 1 the same state in version 2, or is one that a crash could have left before.
 pub fn upgrade<D: Disk>(alloc: Global, disk: &mut D) -> Result<(), OpenFault>
     ensures run { IsDiskRun (D.meaning disk.old) (D.meaning disk.new) }
     ensures cause { HasOpenCause (D.meaning disk.old).disk_faults (D.meaning disk.new).disk_faults result }
@@ -79,9 +79,8 @@ pub fn upgrade<D: Disk>(alloc: Global, disk: &mut D) -> Result<(), OpenFault>
     let store = mount(alloc, disk)?;
     let version = store.limits().version;
     store.close();
-    if version == 2 {
-        return Ok(());
+    if version == 1 {
+        write_gate(disk)?;
     }
-    write_gate(disk)?;
     Ok(())
 }

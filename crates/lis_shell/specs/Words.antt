@@ -36,10 +36,6 @@ limits_in (files ∷ props ∷ blocks ∷ []) = limits_of 1 files props blocks
 limits_in (files ∷ props ∷ blocks ∷ last ∷ []) = option_and_then (λ version. limits_of version files props blocks) (version_of last)
 limits_in (files ∷ props ∷ blocks ∷ last ∷ more ∷ words) = None
 
--- the same of an image, which is not of version 3
-abbrev pub stored_in : List (List ℕ) → Option Limits
-stored_in words = option_and_then (λ limits. if are_in_range limits then Some limits else None) (limits_in words)
-
 -- the words with nothing after their image
 abbrev pub work_alone : List ℕ → Option ImageTask
 work_alone word =
@@ -71,7 +67,7 @@ upgrade_alone (word ∷ words) = None
 -- the same, or to make an image or to upgrade one
 abbrev pub task_with : List ℕ → List (List ℕ) → Option Task
 task_with word words =
-    if same_word word (codes "make") then option_map Make (stored_in words)
+    if same_word word (codes "make") then option_map Make (limits_in words)
     else if same_word word (codes "upgrade") then upgrade_alone words
     else option_map OnImage (work_named word words)
 

@@ -128,13 +128,13 @@ fn carry_task<S: Source, T: Station>(
 /// - `try FILES PROPS BLOCKS` runs the commands of the input on a state that begins empty, and shows the replies. What the disk reads as,
 ///   and what a crash leaves of it, stays.
 /// - `make IMAGE FILES PROPS BLOCKS` makes an image of the empty state. It reads no input and shows nothing. With `v2` after the words of
-///   `try` or `make` the state is of version 2, with `v3` after those of `try` of version 3, and otherwise of version 1.
+///   `try` or `make` the state is of version 2, with `v3` of version 3, and otherwise of version 1.
 /// - `run IMAGE` opens the image, runs the commands of the input on it and shows the replies.
 /// - `load IMAGE` does the same with many changes in one commit. A reply is shown after the commit. Of the items whose changes the image
 ///   has, at most 256 have replies that were not shown whole.
 /// - `rooms IMAGE` does what `run` does for up to eight sessions in one stream, each at its own place. The tag of a line, `@0` to `@7`,
 ///   says whose line it is, and follows the reply.
-/// - `upgrade IMAGE` makes the image one of version 2. It reads no input and shows nothing.
+/// - `upgrade IMAGE` makes the image one of version 2, unless it is of version 2 or 3. It reads no input and shows nothing.
 /// - `dump IMAGE` opens the image and shows the session that makes its state again. It reads no input.
 /// - `grow IMAGE N` opens the image and runs the large session that is made from the number, below 2^31. It reads no input, and shows a
 ///   summary instead of the replies.

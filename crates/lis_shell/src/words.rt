@@ -3,7 +3,7 @@
 ghost use Rattle.std.specs.Prelude.{◌≡◌, map, Some, IfSome};
 ghost use Rattle.std.specs.String.{string_bytes};
 ghost use Rattle.lis_words.specs.Words.{same_word};
-ghost use Rattle.lis_shell.specs.Words.{limits_of, grow_number_of, version_of, limits_in, stored_in, work_alone, part_named, work_named, upgrade_alone, task_with, task_of, MakesInRange, length_for};
+ghost use Rattle.lis_shell.specs.Words.{limits_of, grow_number_of, version_of, limits_in, work_alone, part_named, work_named, upgrade_alone, task_with, task_of, MakesInRange, length_for};
 
 use lis_limits::BLOCK_LEN;
 use lis_model::limits::{Limits, image_blocks, is_blocks_limit, is_files_limit, is_props_limit};
@@ -31,9 +31,9 @@ pub enum Task {
     /// `try FILES PROPS BLOCKS`, with or without `v2` or `v3` after it: a session over a state that begins empty, of that version or of
     /// version 1.
     Try(Limits),
-    /// `make IMAGE FILES PROPS BLOCKS`, with or without `v2` after it: an empty image, of version 2 or 1. No image has version 3.
+    /// `make IMAGE FILES PROPS BLOCKS`, with or without `v2` or `v3` after it: an empty image, of that version or of version 1.
     Make(Limits),
-    /// `upgrade IMAGE`: an image of version 2.
+    /// `upgrade IMAGE`: an image of version 1 becomes one of version 2, and others stay.
     Upgrade,
     /// One work on an existing image.
     OnImage(ImageTask),
@@ -129,16 +129,6 @@ fn limits_in(words: &[String]) -> Option<Limits>
     }
 }
 
-fn stored_in(words: &[String]) -> Option<Limits>
-    ensures { result ≡ stored_in (map string_bytes words.now) }
-{
-    let limits = limits_in(words)?;
-    if limits.version > 2 {
-        return None;
-    }
-    Some(limits)
-}
-
 fn work_alone(word: &String) -> Option<ImageTask>
     ensures { result ≡ work_alone (string_bytes word.now) }
 {
@@ -200,7 +190,7 @@ fn task_with(word: &String, words: &[String]) -> Option<Task>
     ensures { result ≡ task_with (string_bytes word.now) (map string_bytes words.now) }
 {
     if is_word(word, b"make") {
-        let limits = stored_in(words)?;
+        let limits = limits_in(words)?;
         return Some(Task::Make(limits));
     }
     if is_word(word, b"upgrade") {

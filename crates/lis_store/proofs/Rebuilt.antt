@@ -3,7 +3,7 @@ use Rattle.std.proofs.Common.{rules}
 use Rattle.lis_store.proofs.Common.{◌≡◌, ◌⊎◌, inl, inr, refl, subst, ℕ, zero, suc, ◌+◌, ◌≤◌, Bool, true, false, cond, List, [], ◌∷◌, ◌++◌, length, count_by, arith, length-append, sym, ap, ap₂, ◌∙◌, ◌<◌, map, get_or-set_same, get_or-set_other, length-set, if◌then◌else◌, filter, take, not, Option, Some, is_some, IsSome, both_ways, false_from_ne_true, sum_by-cons, Among, among_left, among_right, is_taken, Metadata, is_marked, marked_count, cases_lt, numbers_at, differs, IsSaved, block_of, Describes, among_where, map_all, length-map, length-take-le, list_all, among_append, among_filter, word_of, rec_at, slot_is_below, Ext, has, FileRecord, is_test, is_had, had_at, AreSound, FreeSlotsAreEmpty, among_map, map_among, numbers_where, Rows, has_number, all_among, all_from, is_linked, common_steps}
 use Rattle.lis_kept.proofs.Marking.{marked_within, marked_only}
 use Rattle.std.proofs.lemmas.List.FromFn.{sum_by-map-range_with_len_more}
-use Rattle.lis_store.specs.Redescribing.{SlotHas, turned_at, IsTurnedRow, Redescribes}
+use Rattle.lis_store.specs.Redescribing.{SlotHas, turned_at, IsTurned, Redescribes}
 use Rattle.std.proofs.lemmas.List.Filters.{length-filter_both}
 use Rattle.lis_kept.proofs.WordLess.{had_from}
 use Rattle.lis_store.specs.Closing.{is_concerned, added, base_at, has_words, closure, anew, rebuilt}
@@ -60,7 +60,7 @@ module _ (sets : ℕ → List ℕ) (n : ℕ) (p q : Metadata) (so_far : Redescri
       here : numbers_at r.ext n ≡ sets n
       elsewhere : (slot : ℕ) → (slot ≡ n → ⊥) → numbers_at r.ext slot ≡ numbers_at q.ext slot
       saved : (at : ℕ → List ℕ) → IsSaved q at → IsSaved r at
-      within : (block : ℕ) → is_marked r block ≡ true → (is_marked q block ≡ true) ⊎ IsTurnedRow p sets block
+      within : (block : ℕ) → is_marked r block ≡ true → (is_marked q block ≡ true) ⊎ IsTurned p sets block
       edits : r.ext.edits ≤ q.ext.edits + length (turned_at p sets n)
       no_fewer : q.ext.edits ≤ r.ext.edits
 
@@ -230,7 +230,7 @@ module _ {concerned : ℕ → Bool} {base : ℕ → List ℕ} {k m : Metadata} (
           let more = marked_more k m blocks (λ block is. side block (r.redescribes.within block is)) in
           omega (arith, more, length-map rows (block_of k.limits Rows), few one.0 one.1)
         where
-          side : (block : ℕ) → (is_marked k block ≡ true) ⊎ IsTurnedRow k (anew k concerned base) block → (is_marked k block ≡ true) ⊎ Among (map (block_of k.limits Rows) rows) block
+          side : (block : ℕ) → (is_marked k block ≡ true) ⊎ IsTurned k (anew k concerned base) block → (is_marked k block ≡ true) ⊎ Among (map (block_of k.limits Rows) rows) block
           side block (inl was) = inl was
           side block (inr row) =
               inr (subst (λ b. Among (map (block_of k.limits Rows) rows) b) (sym row.is)
@@ -239,6 +239,6 @@ module _ {concerned : ℕ → Bool} {base : ℕ → List ℕ} {k m : Metadata} (
           let more = marked_more k m [] (λ block is. side block (r.redescribes.within block is)) in
           omega (arith, more)
         where
-          side : (block : ℕ) → (is_marked k block ≡ true) ⊎ IsTurnedRow k (anew k concerned base) block → (is_marked k block ≡ true) ⊎ Among [] block
+          side : (block : ℕ) → (is_marked k block ≡ true) ⊎ IsTurned k (anew k concerned base) block → (is_marked k block ≡ true) ⊎ Among [] block
           side block (inl was) = inl was
           side block (inr row) = absurd (both_ways (concerned row.slot) (none row.slot) (turned_row row.slot row.number (concerned row.slot) refl row.turned).0)

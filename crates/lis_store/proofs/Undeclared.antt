@@ -15,7 +15,7 @@ use Rattle.lis_kept.proofs.NeededTold.{may_undeclare, needed_told}
 use Rattle.lis_store.specs.Stored.{Stored, PairsAreApart, AreClosed, TestsAreMet, IsSound, StoreHolds}
 use Rattle.lis_store.specs.Saving.{Saves}
 use Rattle.lis_store.specs.Judging.{is_needed_by, undeclare_checks, IsUndeclarable}
-use Rattle.lis_store.specs.Redescribing.{IsTurnedRow}
+use Rattle.lis_store.specs.Redescribing.{IsTurned}
 use Rattle.lis_store.specs.ReplacingIn.{AreInForm}
 use Rattle.lis_store.specs.Testing.{without_number, undescribed, UndeclaresUnmet}
 use Rattle.lis_store.specs.Changes.{Holds, AreEditsFew}
@@ -247,7 +247,7 @@ module _ {old : Stored} {word : List ℕ} {number : ℕ} (sound : IsSound old) (
             absurd (both_ways (differs (numbers_at p.ext slot) (without_number p number slot) n)
             (unturned (numbers_at p.ext slot) (without_number p number slot) n (sym (ap (λ ns. has_number ns n) (set_then slot)) ∙ has_same n slot differ)) turns)
 
-        by : (block : ℕ) → (is_marked p block ≡ true) ⊎ IsTurnedRow p (without_number p number) block → (is_marked p block ≡ true) ⊎ Among (block_of p.limits Rows number ∷ []) block
+        by : (block : ℕ) → (is_marked p block ≡ true) ⊎ IsTurned p (without_number p number) block → (is_marked p block ≡ true) ⊎ Among (block_of p.limits Rows number ∷ []) block
         by block (inl was) = inl was
         by block (inr row) = inr (inl (sym (row.is ∙ ap (block_of p.limits Rows) (turned row.slot row.number row.turned (cases_eq row.number number)))))
 

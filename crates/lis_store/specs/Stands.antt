@@ -1,5 +1,5 @@
 -- When an image represents a state.
-use Rattle.std.specs.Prelude.{◌≡◌, ◌≢◌, ℕ, ◌*◌, ◌/◌, ◌<◌, ◌≤◌, nat_lt, Bool, true, false, ◌&&◌, Option, Some, None, is_some, List, [], ◌∷◌, length, map, filter, drop, replicate, slice_get, slice_index_or, IsTrue}
+use Rattle.std.specs.Prelude.{◌≡◌, ℕ, ◌*◌, ◌/◌, ◌<◌, ◌≤◌, nat_lt, Bool, true, false, ◌&&◌, Option, Some, None, is_some, List, [], ◌∷◌, length, map, filter, drop, replicate, slice_get, slice_index_or, IsTrue}
 use Rattle.std.specs.Option.{option_to_list}
 use Rattle.std.specs.BTreeSet.{insert_key}
 use Rattle.std.specs.List.{fold, flat_map, list_all, range_with_len, Contains}
@@ -126,8 +126,8 @@ set_by s limits contents at i = filter (λ p. row_bit s limits contents at p i) 
 
 -- By what each block holds, the slots are in their layouts and spell the state, which is well formed. The words of the slots are the known
 -- words, each once. No two axiom slots have one pair, and those past the last number are free. No two files have one name. Index blocks are
--- well formed. No block is used twice, as a data block or as an index block. The bitmap shows exactly the blocks in use, and the rows, or in
--- version 3 the sets, show exactly which file has which word.
+-- well formed. No block is used twice, as a data block or as an index block. The bitmap shows exactly the blocks in use, and the rows, of
+-- which there are none in version 3, and the sets, of which there are none before it, show exactly which file has which word.
 pub record Spells (limits : Limits) (contents : Contents) (at : ℕ → List ℕ) (s : State) : Type 0 where
   pub properties : AreSlots prop_bytes is_prop (property_slots limits) at contents.properties
   pub axioms : AreSlots axiom_bytes is_axiom (axiom_slots limits) at contents.axioms
@@ -145,8 +145,8 @@ pub record Spells (limits : Limits) (contents : Contents) (at : ℕ → List ℕ
   pub blocks : IsTrue (list_all (λ n. nat_lt n limits.blocks) (all_blocks limits at (all_records contents.files)))
   pub each_block_once : IsTrue (are_distinct (all_blocks limits at (all_records contents.files)))
   pub bitmap : AreBitmapBlocks limits at (marked (replicate limits.blocks false) (all_blocks limits at (all_records contents.files)))
-  pub rows : limits.version ≢ 3 → (p : ℕ) → p < (row_slots limits).count → slot (row_slots limits) at p ≡ bits_bytes (limits.files / 8) (row_bit s limits contents at p)
-  pub sets : limits.version ≡ 3 → (i : ℕ) → i < (set_slots limits).count → slot (set_slots limits) at i ≡ set_bytes (set_by s limits contents at i)
+  pub rows : (p : ℕ) → p < (row_slots limits).count → slot (row_slots limits) at p ≡ bits_bytes (limits.files / 8) (row_bit s limits contents at p)
+  pub sets : (i : ℕ) → i < (set_slots limits).count → slot (set_slots limits) at i ≡ set_bytes (set_by s limits contents at i)
 
 -- The image has a super block with the state's limits, is as long as these say, and has a replayed image that spells the state. What is
 -- past the image does not count.

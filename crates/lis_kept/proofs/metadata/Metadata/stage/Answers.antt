@@ -66,5 +66,6 @@ returns-then-n-end-clause-staged c =
 pub returns-clause-staged : goal.returns-clause-staged
 returns-clause-staged c =
     let k = c.args.self.now in
+    let start : c.properties_start-from.result ≡ properties_start k.limits = c.properties_start-from.ensures ∙ ap properties_start c.limits-2.ensures.value in
     let at : c.data_start-end.result ≡ data_start k.limits = c.data_start-end.ensures.start ∙ ap data_start c.limits.ensures.value in
-    search
+    search (rules, staged_all)
