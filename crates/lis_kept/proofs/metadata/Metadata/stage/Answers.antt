@@ -1,5 +1,5 @@
 use Rattle.std.proofs.Common.{arith, ◌-◌}
-use Rattle.lis_kept.proofs.Common.{◌≡◌, ◌≤◌, ◌+◌, ◌<◌, ℕ, false, length, sym, ap, ◌∙◌, subst, Held, Limits, data_start}
+use Rattle.lis_kept.proofs.Common.{rules, ◌≡◌, ◌≤◌, ◌+◌, ◌<◌, ℕ, false, length, sym, ap, ◌∙◌, subst, Held, Limits, data_start}
 use Rattle.lis_model.specs.Image.{properties_start}
 use Rattle.lis_kept.specs.Metadata.{Metadata}
 use Rattle.lis_kept.specs.Areas.{is_marked}

@@ -1,5 +1,5 @@
-use Rattle.std.proofs.Common.{arith, ◌*◌, ◌+◌, ◌-◌, ◌/◌, ◌≤◌}
-use Rattle.lis_kept.proofs.Common.{◌≡◌, ◌<◌, ℕ, true, eq-eqb, ne_eqb, List, sym, subst, bitmap_start, AxiomSlot, IsTrue, are_in_range}
+use Rattle.std.proofs.Common.{arith, eq-eqb, ◌*◌, ◌+◌, ◌-◌, ◌/◌, ◌≤◌}
+use Rattle.lis_kept.proofs.Common.{◌≡◌, ◌<◌, ℕ, true, ne_eqb, List, sym, subst, bitmap_start, AxiomSlot, IsTrue, are_in_range}
 use Rattle.lis_model.proofs.Ranges.{third_descriptions}
 use Rattle.lis_fields.specs.Layouts.{is_axiom}
 use Rattle.lis_kept.specs.Metadata.{Metadata, axiom_at}
