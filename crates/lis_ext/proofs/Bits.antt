@@ -7,6 +7,7 @@ use Rattle.lis_ext.specs.Numbers.{has_number, numbers_where, differs}
 use Rattle.lis_ext.specs.Inside.{PutsBits, AreInStep, has_alone}
 use Rattle.lis_ext.proofs.Numbers.{numbers_more, numbers_le, numbers_apart}
 use Rattle.lis_ext.proofs.Touched.{PassesMore}
+use Rattle.lis_ext.proofs.Counted.{where_zero}
 
 and_false : (b : Bool) → (b && false) ≡ false
 and_false true = refl
@@ -83,3 +84,8 @@ edits_set rows mid after props files file old new down up = omega (arith, down.e
     apart : (x y : Bool) → (x && not y) ≡ true → (y && not x) ≡ false
     apart true y e = and_false y
     apart false y e = absurd cc
+
+-- rows of fewer numbers have no more edits
+pub edits_all : (rows after : Rows) (kept props : ℕ) (test : ℕ → Bool) → (kept ≡ 0) ⊎ (kept ≡ props) → after.edits ≤ rows.edits + length (numbers_where kept test) → after.edits ≤ rows.edits + length (numbers_where props test)
+edits_all rows after kept props test (inl none) few = omega (arith, few, where_zero test, ap (λ n. length (numbers_where n test)) none)
+edits_all rows after kept props test (inr all) few = omega (arith, few, ap (λ n. length (numbers_where n test)) all)

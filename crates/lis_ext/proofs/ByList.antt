@@ -1,6 +1,6 @@
 -- A row that is set bit by bit.
-use Rattle.std.proofs.Common.{◌≡◌, ◌≢◌, ◌⊎◌, ℕ, ◌+◌, ◌*◌, ◌^◌, ◌<◌, ◌≤◌, ◌==◌, Bool, true, false, if◌then◌else◌, length, sym, ap, ap₂, ◌∙◌, refl, inl, inr, arith, add-one, eq-eqb, below_more}
-use Rattle.std.proofs.lemmas.Bool.{cases_eq, ne_eqb}
+use Rattle.std.proofs.Common.{◌≡◌, ◌≢◌, ℕ, ◌+◌, ◌*◌, ◌^◌, ◌<◌, ◌≤◌, ◌==◌, Bool, true, false, if◌then◌else◌, length, sym, ap, ap₂, ◌∙◌, refl, arith, add-one, eq-eqb, below_more}
+use Rattle.std.proofs.lemmas.Bool.{ne_eqb}
 use Rattle.std.proofs.Math.Pow.{pow_mono}
 use mir.Val.{bool_byte}
 use Rattle.lis_bits.specs.Rows.{Rows, HasShape, get, with_row, SetsBits}

@@ -5,9 +5,8 @@ ghost use Rattle.lis_bits.specs.Rows.{get, SetsBits};
 ghost use Rattle.lis_bits.specs.Bytes.{bits_bytes};
 ghost use Rattle.lis_ext.specs.Numbers.{differs, has_number, numbers_where};
 
-use crate::by_list;
 use crate::lists::Lists;
-use crate::tables;
+use crate::{by_list, tables};
 use lis_bits::{Rows, and_row, copy_row, within};
 use lis_limits::{MAX_DESCRIPTION, V3_MAX_FILES, V3_MAX_PROPS};
 use std::alloc::{AllocError, Global};
@@ -107,11 +106,7 @@ impl Ext {
         let old = self.lists.numbers(file);
         tables::lose(&mut self.counts, &mut self.marks, self.props, old, new);
         tables::gain(&mut self.counts, &mut self.marks, self.props, new, old);
-        if self.kept == self.props {
-            let (props, files) = (self.props, self.files);
-            tables::put_bits(&mut self.rows, props, files, file, old, new, false);
-            tables::put_bits(&mut self.rows, props, files, file, new, old, true);
-        }
+        tables::replace_bits(&mut self.rows, self.kept, self.files, file, old, new);
         self.lists.set(file, new);
     }
 
@@ -248,8 +243,8 @@ impl Ext {
         self.marks.fill(0, false);
     }
 
-    /// How many edits of the rows there were since they were made, none if there are no rows: at most as many as the times that a file got or lost a number. The count stays at
-    /// its largest value, 2^64 - 1.
+    /// How many edits of the rows there were since they were made, none if there are no rows: at most as many as the times that a
+    /// file got or lost a number. The count stays at its largest value, 2^64 - 1.
     pub fn edits(&self) -> u64
         ensures { result ≡ self.now.edits }
     {

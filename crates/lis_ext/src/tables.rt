@@ -1,8 +1,8 @@
-ghost use Rattle.std.specs.Prelude.{◌≡◌, ℕ, ◌+◌, ◌<◌, ◌≤◌, ◌^◌, true, All, length, slice_get, slice_index};
+ghost use Rattle.std.specs.Prelude.{◌≡◌, ℕ, ◌+◌, ◌<◌, ◌≤◌, ◌^◌, true, All, List, [], length, slice_get, slice_index, slice_index_or, slice_set};
 ghost use Rattle.std.specs.List.Sorted.{IsStrictlyIncreasing};
 ghost use Rattle.lis_bits.specs.Rows.{HasShape, get};
-ghost use Rattle.lis_ext.specs.Numbers.{has_number, numbers_where};
-ghost use Rattle.lis_ext.specs.Inside.{CountsUp, Touches, PutsBits, has_alone};
+ghost use Rattle.lis_ext.specs.Numbers.{differs, has_number, numbers_where};
+ghost use Rattle.lis_ext.specs.Inside.{AreInStep, CountsUp, Touches, PutsBits, has_alone};
 
 use crate::by_list::is_among;
 use lis_bits::Rows;
@@ -58,7 +58,7 @@ pub(crate) fn lose(
 }
 
 // Sets the file's bit to the value in the row of each number that is none of the others.
-pub(crate) fn put_bits(
+fn put_bits(
     rows: &mut Rows,
     props: u32,
     files: u32,
@@ -78,6 +78,33 @@ pub(crate) fn put_bits(
         if !is_among(others, *number) {
             rows.put(*number, file, value);
         }
+    }
+}
+
+// Puts the file's new numbers in place of its old ones in the rows, if there are rows.
+pub(crate) fn replace_bits(
+    rows: &mut Rows,
+    kept: u32,
+    files: u32,
+    file: u32,
+    old: &[u32],
+    new: &[u32],
+)
+    requires shape { HasShape rows.old kept files }
+    requires file { file < files }
+    requires old_in { 0 < kept → All (λ number. number < kept) old.now }
+    requires new_in { 0 < kept → All (λ number. number < kept) new.now }
+    requires old_rises { IsStrictlyIncreasing old.now }
+    requires new_rises { IsStrictlyIncreasing new.now }
+    ensures shape { HasShape rows.new kept files }
+    ensures in_step { (lists : List (List ℕ)) → length lists ≡ files → slice_index_or lists file [] ≡ old.now
+        → AreInStep lists rows.old kept files → AreInStep (slice_set lists file new.now) rows.new kept files }
+    ensures edits { rows.new.edits ≤ rows.old.edits + length (numbers_where kept (differs old.now new.now)) }
+    ensures no_fewer { rows.old.edits ≤ rows.new.edits }
+{
+    if kept > 0 {
+        put_bits(rows, kept, files, file, old, new, false);
+        put_bits(rows, kept, files, file, new, old, true);
     }
 }
 

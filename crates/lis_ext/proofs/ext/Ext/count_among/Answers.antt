@@ -2,6 +2,7 @@ use Rattle.std.proofs.Common.{rules, ◌≡◌, ℕ, ◌+◌, ◌<◌, ◌&&◌,
 use Rattle.std.proofs.lemmas.Bool.{and_left}
 use Rattle.std.proofs.lemmas.List.{get_or-replicate}
 use Rattle.lis_bits.specs.Rows.{get}
+use Rattle.lis_ext.specs.Numbers.{numbers_where}
 use Rattle.lis_ext.specs.Ext.{Ext, has}
 use Rattle.lis_ext.proofs.Counted.{where_zero, where_ends, where_le, counted_next, found_next}
 use Rattle.lis_ext.proofs.ext.Ext.count_among.Goals as goal
@@ -63,3 +64,10 @@ loop-preserved c =
       low = omega (arith, l.invariant.low, next.from_start);
       high = omega (arith, next.in_row, c.requires.bits);
     }
+
+pub returns-clause-counts : goal.returns-clause-counts
+returns-clause-counts c = λ p lt.
+    let l = c.loop in
+    let files : length c.args.self.now.sets ≡ c.self.inside.files = ap (λ (e : Ext). length e.sets) (sym c.self.view_is) ∙ c.self.invariant.long in
+    let all : l.start ≡ length c.args.self.now.sets = omega (arith, l.invariant.low, l.invariant.high, files, c.loop-test.false) in
+    l.invariant.counts p lt ∙ ap (λ n. length (numbers_where n (λ file. get c.args.found.now 0 file && has c.args.self.now p file))) all

@@ -1,19 +1,15 @@
 use Rattle.std.proofs.Common.{length, ◌∙◌, arith}
 use Rattle.lis_bits.specs.Rows.{get}
 use Rattle.lis_bits.proofs.Numbers.{bytes_same}
-use Rattle.lis_ext.specs.Ext.{has}
-use Rattle.lis_ext.specs.Inside.{seen}
+use Rattle.lis_ext.specs.Inside.{has_in}
 use Rattle.lis_ext.proofs.ext.Ext.row_bytes.Goals as goal
 
-pub row_bytes-requires-clause-room : goal.row_bytes-requires-clause-room
-row_bytes-requires-clause-room c =
+pub returns-then-prop-self : goal.returns-then-prop-self
+returns-then-prop-self c =
+    let e = c.self.inside in
+    let prop = c.args.prop in
     let room = rw (← c.self.view_is) at c.requires.room in
-    omega (arith, room, c.self.invariant.rows_shape.wide, c.self.invariant.long)
+    rw (← c.self.view_is) (c.row_bytes.ensures ∙ bytes_same (length c.args.buf.now) (get e.rows prop) (has_in e.lists prop) (λ i lt. c.self.invariant.in_step prop i c.if-prop-self.true (omega (arith, room, c.self.invariant.long))))
 
 pub returns : goal.returns
-returns c =
-    let e = c.self.inside in
-    let prop = rw (← c.self.view_is) at c.requires.prop in
-    let room = rw (← c.self.view_is) at c.requires.room in
-    rw (← c.self.view_is) (c.row_bytes.ensures ∙ bytes_same (length c.args.buf.now) (get e.rows c.args.prop) (has (seen e.lists e.rows e.marks e.props) c.args.prop)
-    (λ i lt. c.self.invariant.in_step c.args.prop i prop (omega (arith, room, c.self.invariant.long))))
+returns c = rw (← c.self.view_is) c.write_bits.ensures

@@ -1,9 +1,10 @@
 use Rattle.std.proofs.Common.{◌≡◌, ℕ, ◌<◌, List, length, get_or, sym, ap, subst, ◌∙◌, arith, length-set}
 use Rattle.std.specs.List.{All}
 use Rattle.std.specs.List.Sorted.{IsStrictlyIncreasing}
+use Rattle.lis_ext.specs.Numbers.{differs}
 use Rattle.lis_ext.specs.Ext.{count_of}
 use Rattle.lis_ext.specs.Inside.{IsSoundExt}
-use Rattle.lis_ext.proofs.Bits.{in_step_set, edits_set}
+use Rattle.lis_ext.proofs.Bits.{edits_all}
 use Rattle.lis_ext.proofs.Numbers.{has_decides}
 use Rattle.lis_ext.proofs.Counted.{retaken, each_set, each_below, counted_some, counts_set, marks_set}
 use Rattle.lis_ext.proofs.ext.Ext.set_file.Goals as goal
@@ -35,18 +36,19 @@ invariant_of-self c =
     let mid_is : c.deref_mut-2.result.now ≡ mid = c.deref_mut-2.ensures.value ∙ retaken e.counts.len mid _ mid_long in
     let after_long : length after ≡ e.counts.len = omega (arith, c.gain.auto.counts, ap length mid_is, mid_long) in
     let up = rw mid_is at c.gain.ensures.counts in
-    subst (λ (xs : List ℕ). IsSoundExt c.set.new.self xs c.put_bits-2.new.rows c.gain.new.marks e.props e.files) (sym (retaken e.counts.len after _ after_long)) (record {
+    subst (λ (xs : List ℕ). IsSoundExt c.set.new.self xs c.replace_bits.new.rows c.gain.new.marks e.props e.files e.kept) (sym (retaken e.counts.len after _ after_long)) (record {
       few_props = inv.few_props;
       few_files = inv.few_files;
       long = omega (arith, ap length c.set.ensures, length-set e.lists file new, inv.long);
-      rows_shape = c.put_bits-2.ensures.shape;
+      all_or_none = inv.all_or_none;
+      rows_shape = c.replace_bits.ensures.shape;
       marks_shape = c.gain.ensures.marks.shape;
       room = omega (arith, after_long, c.deref_mut.ensures.len, ap length c.deref_mut.ensures.value, inv.room);
       rise = λ i lt. rw c.set.ensures (each_set IsStrictlyIncreasing e.lists file new (λ k low. inv.rise k (omega (arith, inv.long))) c.requires.new_rises i (omega (arith, inv.long)));
       in_range = λ i lt. rw c.set.ensures (each_set (All (λ p. p < e.props)) e.lists file new (λ k low. inv.in_range k (omega (arith, inv.long))) new_in i (omega (arith, inv.long)));
       counted = λ p lt. counts_set e.props old new c.deref_mut.result.now mid after e.lists file file_in (sym c.numbers-old.ensures.numbers) c.lose.ensures.counts up
           (λ k low. ap (λ (xs : List ℕ). get_or xs k 0) c.deref_mut.ensures.value ∙ inv.counted k low) p lt ∙ ap (λ (sets : List (List ℕ)). count_of sets p) (sym c.set.ensures);
-      in_step = rw c.set.ensures (in_step_set e.lists e.rows c.put_bits.new.rows c.put_bits-2.new.rows e.props e.files file old new inv.long (omega (arith, inv.long, file_in)) (sym c.numbers-old.ensures.numbers) inv.in_step c.put_bits.ensures c.put_bits-2.ensures);
+      in_step = rw c.set.ensures (c.replace_bits.ensures.in_step e.lists inv.long (sym c.numbers-old.ensures.numbers) inv.in_step);
     })
 
 pub returns-clause-marks : goal.returns-clause-marks
@@ -57,7 +59,7 @@ returns-clause-marks c =
 pub returns-clause-edits : goal.returns-clause-edits
 returns-clause-edits c =
     let e = c.self.inside in
-    rw (← c.self.view_is, ← c.numbers-old.ensures.numbers) (edits_set e.rows c.put_bits.new.rows c.put_bits-2.new.rows e.props e.files c.args.file c.numbers-old.result.now c.args.new.now c.put_bits.ensures c.put_bits-2.ensures)
+    rw (← c.self.view_is, ← c.numbers-old.ensures.numbers) (edits_all e.rows c.replace_bits.new.rows e.kept e.props (differs c.numbers-old.result.now c.args.new.now) c.self.invariant.all_or_none c.replace_bits.ensures.edits)
 
 pub returns-clause-no_fewer : goal.returns-clause-no_fewer
-returns-clause-no_fewer c = rw (← c.self.view_is) (omega (arith, c.put_bits.ensures.no_fewer, c.put_bits-2.ensures.no_fewer))
+returns-clause-no_fewer c = rw (← c.self.view_is) c.replace_bits.ensures.no_fewer

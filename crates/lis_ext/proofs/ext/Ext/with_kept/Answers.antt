@@ -3,7 +3,7 @@ use Rattle.lis_bits.specs.Rows.{get, empty_rows}
 use Rattle.lis_bits.proofs.Laws.{get-empty_rows}
 use Rattle.lis_ext.specs.Numbers.{numbers_where}
 use Rattle.lis_ext.proofs.Numbers.{numbers_same, numbers_none}
-use Rattle.lis_ext.proofs.ext.Ext.new.Goals as goal
+use Rattle.lis_ext.proofs.ext.Ext.with_kept.Goals as goal
 
 pub returns : goal.returns
 returns c =
