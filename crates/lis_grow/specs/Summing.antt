@@ -1,7 +1,7 @@
 -- A session that is run with nothing shown: what it has become since a start, and the sum of its replies. No public clause cites this
 -- module.
 use Rattle.std.specs.Prelude.{◌≡◌, ℕ, ◌+◌, ◌*◌, ◌^◌, ◌<◌, List, [], ◌∷◌, ◌++◌, Result, Ok, Err, IfOk, false}
-use Rattle.lis_limits.specs.declared.TheConstants.{MAX_FILES, MAX_PROPS}
+use Rattle.lis_limits.specs.declared.TheConstants.{V3_MAX_FILES, V3_MAX_PROPS}
 use Rattle.lis_ports.specs.Meaning.{Meaning}
 use Rattle.lis_ports.specs.Calls.{UsesDisk}
 use Rattle.lis_ports.specs.declared.disk.Failed.{Failed}
@@ -21,7 +21,7 @@ pub record CanSum (session : Situated) (sum : Sum) (m : Meaning) (more : ℕ) : 
   pub usable : IsUsable session.store m
   pub replies : sum.replies + more < 2 ^ 32
   pub refused : sum.refused + more < 2 ^ 32
-  pub listed : sum.listed + (MAX_FILES + MAX_PROPS) * more < 2 ^ 64
+  pub listed : sum.listed + (V3_MAX_FILES + V3_MAX_PROPS) * more < 2 ^ 64
 
 -- Since the start these items were run, from any state that fitted then; or all but the last one, in which a disk call failed.
 pub record SumsTo (start : Situated) (entry : Meaning) (items : List Item) (now : Situated) (m : Meaning) (result : Result Sum Failed) : Type 0 where

@@ -168,7 +168,10 @@ same_area limits n m a b has some from to from' to' = search (rules, third_rows,
 -- a block that spells the slots of its area
 pub one_area : (k : Metadata) → IsTrue (are_in_range k.limits) → (area : Area) → HasArea k.limits area → (n : ℕ) (block : List ℕ) → (slots_of k.limits area).first ≤ n → n < end_of k.limits area
     → ((m : ℕ) → m < (slots_of k.limits area).count → block_of k.limits area m ≡ n → bytes_in k.limits area m block ≡ spelled k area m) → IsBlock k n block
-one_area k range area has n block from to is = search (rules, in_area, same_area)
+one_area k range area has n block from to is = λ other m lt here.
+    let inside = in_area k.limits range other m lt in
+    let same : area ≡ other = same_area k.limits n m area other has lt from to (subst (λ b. (slots_of k.limits other).first ≤ b) here inside.0) (subst (λ b. b < end_of k.limits other) here inside.1) in
+    subst (λ a. (j : ℕ) → j < (slots_of k.limits a).count → block_of k.limits a j ≡ n → bytes_in k.limits a j block ≡ spelled k a j) same is m lt here
 
 -- a slot, by its block
 pub held_by : (limits : Limits) (area : Area) (m : ℕ) → m < (slots_of limits area).count → (at : ℕ → List ℕ) → held_in limits area at m ≡ bytes_in limits area m (at (block_of limits area m))

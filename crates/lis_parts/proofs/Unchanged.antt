@@ -17,7 +17,7 @@ use Rattle.lis_model.specs.declared.refusal.Refusal.TheVariants.{NoFileHere, Lar
 use Rattle.lis_model.specs.Changes.{new_file, has_name, file_of, file_replaced}
 use Rattle.lis_model.specs.Listing.{extension, holds_all}
 use Rattle.lis_model.specs.Replies.{ok_line, refusal_line}
-use Rattle.lis_model.proofs.Stored.{limit_le}
+use Rattle.lis_model.proofs.Ranges.{limit_le}
 use Rattle.lis_model.specs.Script.{payload_limit, payload_of}
 use Rattle.lis_model.specs.State.{State, File, WellFormed, file_cmp, file_limit, blocks_taken, description, known}
 use Rattle.lis_model.specs.Step.{Situation, Outcome, refused, changed, judged, free_blocks, blocks_for, exceeds_file, exceeds_known, exceeds_words, is_here, write_checks, write_with, write}

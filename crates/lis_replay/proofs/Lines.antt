@@ -8,7 +8,7 @@ use Rattle.lis_graph.proofs.Members.{Among, among_take}
 use Rattle.lis_words.specs.Words.{has_word, head_bytes, is_plain_word, is_head, is_valued, is_word, is_test, is_property, is_file_name}
 use Rattle.lis_words.proofs.Tests.{property_short, word_is_property}
 use Rattle.lis_grammar.proofs.Printed.{decimal_count, decimal_value}
-use Rattle.lis_model.proofs.Stored.{limit_le}
+use Rattle.lis_model.proofs.Ranges.{limit_le}
 use Rattle.lis_model.specs.declared.command.Command.TheVariants.{Add}
 use Rattle.lis_model.specs.State.{State, File, WellFormed, is_declarable, is_known_head, is_nameable, file_limit}
 use Rattle.lis_model.specs.Step.{Payload}

@@ -6,7 +6,7 @@ use Rattle.std.proofs.lemmas.List.{length-drop}
 use Rattle.lis_graph.proofs.Members.{Among}
 use Rattle.lis_graph.proofs.Sets.{sorted_from_rising, members_le}
 use Rattle.lis_words.specs.Words.{word_cmp, is_word}
-use Rattle.lis_model.proofs.Stored.{within_most}
+use Rattle.lis_model.proofs.Ranges.{few_limits}
 use Rattle.lis_model.specs.Replies.{line}
 use Rattle.lis_model.specs.State.{State, File, WellFormed, is_declarable, description, known, left_words, blocks_needed, blocks_taken, used_blocks}
 use Rattle.lis_laws.proofs.Members.{word_order, with_words_old}
@@ -28,7 +28,7 @@ record IsSmall (s : State) : Type 0 where
 
 small_state : (s : State) → WellFormed s → IsSmall s
 small_state s formed =
-    let most = within_most s.limits formed.limits in
+    let most = few_limits s.limits formed.limits in
     record {
       declared = omega (arith, declared_le, formed.few_known, most.props);
       axioms = omega (arith, formed.few_axioms, most.props);

@@ -9,7 +9,7 @@ use Rattle.lis_shell.specs.declared.words.Task.{Task}
 use Rattle.lis_shell.specs.declared.words.Task.TheVariants.{Try, Make, Upgrade, OnImage}
 use Rattle.lis_shell.specs.declared.words.ImageTask.{ImageTask}
 use Rattle.lis_shell.specs.declared.words.ImageTask.TheVariants.{Run, Load, Rooms, Dump, Grow, View, Put}
-use Rattle.lis_shell.specs.Words.{limits_of, grow_number_of, version_of, limits_in, stored_in, part_named, work_named, upgrade_alone, task_of, MakesInRange, name_in}
+use Rattle.lis_shell.specs.Words.{limits_of, grow_number_of, version_of, limits_in, part_named, work_named, upgrade_alone, task_of, MakesInRange, name_in}
 
 -- ---- limits are in range
 held : (t : Bool) (all limits : Limits) → cond t (Some all) None ≡ Some limits → (t ≡ true) × (all ≡ limits)
@@ -79,24 +79,6 @@ limits_are (files ∷ props ∷ blocks ∷ []) limits e = limits_in_range 1 file
 limits_are (files ∷ props ∷ blocks ∷ last ∷ []) limits e = versions_are files props blocks last limits e
 limits_are words limits e = absurd (cc)
 
--- those of an image are so by their definition
-stored : (words : List (List ℕ)) (limits : Limits) → stored_in words ≡ Some limits → IsTrue (are_in_range limits)
-stored words limits e = by (limits_in words) e
-  where
-    within : (all : Limits) (t : Bool) → are_in_range all ≡ t → cond t (Some all) None ≡ Some limits → IsTrue (are_in_range limits)
-    within all true is e = subst (λ l. IsTrue (are_in_range l)) (held true all limits e).1 is
-    within all false is e = absurd (cc)
-
-    by : (found : Option Limits) → option_and_then (λ all. if are_in_range all then Some all else None) found ≡ Some limits → IsTrue (are_in_range limits)
-    by (Some all) e = within all (are_in_range all) refl e
-    by None e = absurd (cc)
-
--- they are the limits of version 1 or 2
-pub stored_is : (words : List (List ℕ)) (limits : Limits) → limits_in words ≡ Some limits → stored_in words ≡ (if nat_le limits.version 2 then Some limits else None)
-stored_is words limits e =
-    ap (λ found. option_and_then (λ all. if are_in_range all then Some all else None) found) e
-    ∙ ap (λ t. if t && nat_le limits.version 2 then Some limits else None) (limits_are words limits e)
-
 upgrades : (all words : List (List ℕ)) → IsAsked all (upgrade_alone words)
 upgrades all [] = tt
 upgrades all (word ∷ words) = tt
@@ -135,7 +117,7 @@ is_asked (word ∷ []) = tt
 is_asked (word ∷ second ∷ words) =
     let all : List (List ℕ) = word ∷ second ∷ words in
     either (IsAsked all) (same_word word (codes "try")) _ _ (mapped (IsAsked all) Try (λ limits. tt) tt (limits_in (second ∷ words)))
-    (either (IsAsked all) (same_word word (codes "make")) _ _ (made all (stored_in words) (stored words))
+    (either (IsAsked all) (same_word word (codes "make")) _ _ (made all (limits_in words) (limits_are words))
     (either (IsAsked all) (same_word word (codes "upgrade")) _ _ (upgrades all words) (on_image all (work_named word words) (work_is word second words))))
 
 pub makes_in_range : (words : List (List ℕ)) → IfSome (task_of words) MakesInRange

@@ -14,7 +14,7 @@ const GROW_END: u64 = 1 << 31;
 
 /// The forms of the words, one on each line.
 pub const FORMS: &[u8] = b"lisfs try FILES PROPS BLOCKS [v2|v3]
-lisfs make IMAGE FILES PROPS BLOCKS [v2]
+lisfs make IMAGE FILES PROPS BLOCKS [v2|v3]
 lisfs run IMAGE
 lisfs load IMAGE
 lisfs rooms IMAGE

@@ -14,13 +14,13 @@ const RANGES: &[u8] = b"
 make makes IMAGE an empty image, over whatever is there; run runs the commands of its input.
 FILES is a power of two from 64 to 4096, PROPS a multiple of 64 from 64 to 8192, BLOCKS from 1 to 32768.
 With v2 a file may have 1048576 bytes, and else 65536. NAME is a file, and F a formula over its lines.
-With v3, which only try has, FILES is up to 262144, PROPS up to 1048576, BLOCKS up to 16777216, and a file
-may have 4096 bytes for each of BLOCKS, up to 67108864.
+With v3 FILES is up to 262144, PROPS up to 1048576, BLOCKS up to 16777216, and a file may have 4096 bytes
+for each of BLOCKS, up to 67108864.
 N is a number below 2147483648; grow is a trial, not for an image with files of your own.
 docs/GUIDE.md is a page for users, and docs/lisfs.1 a man page.
 ";
 
-const VERSION: &[u8] = b"lisfs, unreleased; images of versions 1 and 2
+const VERSION: &[u8] = b"lisfs, unreleased; images of versions 1, 2 and 3
 ";
 
 /// The text that words in no form request, if they are `--help` or `--version`.
@@ -108,25 +108,24 @@ fn write_numbers(
     Ok(())
 }
 
-// The version that a word after the limits says; None if there is none, or the word may not have it.
-fn version_named(newest: u32, last: &str) -> Option<u32> {
+// The version that a word after the limits says.
+fn version_named(last: &str) -> Option<u32> {
     match last {
         "v2" => Some(2),
-        "v3" if newest == 3 => Some(3),
+        "v3" => Some(3),
         _ => None,
     }
 }
 
-// What is wrong with limits, if `newest` is the newest version that they may have. After a wrong last word they may be in any version's
-// range.
-fn write_limits(error: &mut impl Write, newest: u32, limits: &[String]) -> io::Result<()> {
+// What is wrong with limits. After a wrong last word they may be in any version's range.
+fn write_limits(error: &mut impl Write, limits: &[String]) -> io::Result<()> {
     match limits {
         [files, props, blocks] => {
             write_numbers(error, 1, files.as_str(), props.as_str(), blocks.as_str())
         }
         [files, props, blocks, last] => {
-            let named = version_named(newest, last.as_str());
-            let version = named.unwrap_or(newest);
+            let named = version_named(last.as_str());
+            let version = named.unwrap_or(3);
             write_numbers(
                 error,
                 version,
@@ -137,12 +136,7 @@ fn write_limits(error: &mut impl Write, newest: u32, limits: &[String]) -> io::R
             if named.is_some() {
                 return Ok(());
             }
-            let words = if newest == 3 {
-                "v2, v3, or left out"
-            } else {
-                "v2, or left out"
-            };
-            write_word(error, "the last word", last.as_str(), words)
+            write_word(error, "the last word", last.as_str(), "v2, v3, or left out")
         }
         _ => Ok(()),
     }
@@ -164,8 +158,8 @@ fn write_name(error: &mut impl Write, name: &str) -> io::Result<()> {
 // Each word that is out of its range, on its own line. Nothing if there are too few words, or too many: then the form shows it.
 fn write_ranges(error: &mut impl Write, words: &[String]) -> io::Result<()> {
     match words {
-        [word, limits @ ..] if word.as_str() == "try" => write_limits(error, 3, limits),
-        [word, _, limits @ ..] if word.as_str() == "make" => write_limits(error, 2, limits),
+        [word, limits @ ..] if word.as_str() == "try" => write_limits(error, limits),
+        [word, _, limits @ ..] if word.as_str() == "make" => write_limits(error, limits),
         [word, _, number] if word.as_str() == "grow" => {
             write_word(error, "N", number.as_str(), "a number from 0 to 2147483647")
         }

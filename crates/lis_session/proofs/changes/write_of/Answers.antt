@@ -1,5 +1,5 @@
 use Rattle.std.proofs.Common.{refl, sym, ◌∙◌, arith}
-use Rattle.lis_model.proofs.Stored.{limit_le}
+use Rattle.lis_model.proofs.Ranges.{limit_le}
 use Rattle.lis_session.proofs.changes.write_of.Goals as goal
 
 pub returns-in-Mkdir-clause-written : goal.returns-in-Mkdir-clause-written

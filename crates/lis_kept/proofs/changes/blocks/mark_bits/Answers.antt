@@ -1,9 +1,13 @@
 use Rattle.std.proofs.Common.{arith, get_or}
 use Rattle.lis_kept.proofs.Common.{◌≡◌, ◌+◌, ◌/◌, Bool, List, ◌∙◌, sym, ap, subst, drop, set, true, marked}
 use Rattle.lis_kept.specs.Changes.{bitmap_homes}
+use Rattle.lis_kept.proofs.InArea.{few_ahead}
 use Rattle.lis_kept.proofs.BitmapMarks.{marks_one, marks_none, as_many}
 use Rattle.lis_kept.proofs.changes.blocks.mark_bits.Goals.{then-n-limits, else-n-limits}
 use Rattle.lis_kept.proofs.changes.blocks.mark_bits.Goals as goal
+
+pub overflow_add-first : goal.overflow_add-first
+overflow_add-first c = omega (arith, c.bitmap_start-first.ensures, c.if-n-limits.true, few_ahead c.args.limits.now c.requires.range)
 
 pub put-requires : goal.put-requires
 put-requires c =
