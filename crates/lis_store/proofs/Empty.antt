@@ -72,6 +72,7 @@ module _ (limits : Limits) (blocks : ℕ) where
         rows = refl;
         files = length-replicate {A = List ℕ} limits.files [];
         named = λ n at some had. absurd (both_ways (has metadata.ext n at) (no_set n at) had);
+        rising = λ at lt. search (rules, get_or-replicate);
         settled = refl;
         marks = search (rules, length-replicate);
       }

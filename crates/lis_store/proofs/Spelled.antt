@@ -28,7 +28,8 @@ use Rattle.lis_kept.specs.Metadata.{property_at, axiom_at, file_by, record_at}
 use Rattle.lis_kept.specs.Areas.{property_slots, file_slots, row_slots, set_slots}
 use Rattle.lis_kept.proofs.InArea.{third_sets, some_are_third}
 use Rattle.lis_kept.specs.Telling.{pair_by, pair_told, pairs_told}
-use Rattle.lis_kept.proofs.Formed.{axioms_formed, records_formed}
+use Rattle.lis_kept.proofs.Formed.{axioms_formed, records_formed, named_all, named_below}
+use Rattle.lis_ext.proofs.Numbers.{has_decides, numbers_of}
 use Rattle.lis_kept.proofs.Filing.{number_from_among as has_from_among}
 use Rattle.lis_kept.proofs.Known.{placed_at, only_pair, declared_set}
 use Rattle.lis_store.specs.Stands.{Contents, AreSlots, word_in, declared_in, words_in, all_declared, word_at, pair_in, pairs_in, is_named_axiom, is_free_axiom, records_in, all_records, all_blocks, file_by as file_of_record, spelled_state, is_had_by, row_bit, set_by, Spells}
@@ -400,7 +401,10 @@ module _ (k : Metadata) (at : ℕ → List ℕ) (sound : AreSound k) (free : Fre
       ∙ numbers_same k.limits.props (λ p. has k.ext p i) (λ p. row_bit s k.limits (contents_of k) at p i) (λ p below. bit_is p i lt)
 
   in_order : (i : ℕ) → i < k.limits.files → numbers_at k.ext i ≡ numbers_where k.ext.props (has_number (numbers_at k.ext i))
-  in_order i lt = ?
+  in_order i lt = sym (numbers_of k.ext.props (numbers_at k.ext i) (sound.rising i (omega (arith, lt, sound.files))) below)
+    where
+      below : (n : ℕ) → Among (numbers_at k.ext i) n → n < k.ext.props
+      below n m = omega (arith, named_below k sound n (named_all k sound free n i ((has_decides (numbers_at k.ext i) n).1 m)), sound.rows)
 
   sets_are : (i : ℕ) → i < (set_slots k.limits).count → slot (set_slots k.limits) at i ≡ set_bytes (set_by s k.limits (contents_of k) at i)
   sets_are i lt =
