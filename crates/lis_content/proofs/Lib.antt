@@ -9,4 +9,3 @@ pub mod Laying
 mod Indexing
 pub mod Reading
 pub mod Places
-pub mod Buffers

@@ -1,11 +1,11 @@
 -- A block that is read as its part of the bytes of a file.
-use Rattle.std.proofs.Common.{◌≡◌, ◌⊎◌, inl, inr, ℕ, ◌+◌, ◌-◌, ◌*◌, ◌<◌, ◌≤◌, min, List, [], ◌∷◌, ◌++◌, length, take, drop, get_or, Bool, true, false, refl, sym, ap, subst, ◌∙◌, arith, length-append, length-take, append-nil}
+use Rattle.std.proofs.Common.{◌≡◌, ◌⊎◌, inl, inr, ℕ, ◌+◌, ◌-◌, ◌*◌, ◌<◌, ◌≤◌, min, List, [], ◌∷◌, ◌++◌, length, take, drop, get_or, Bool, true, false, refl, sym, ap, subst, ◌∙◌, arith, length-append, length-drop, length-take, append-nil}
 use Rattle.std.specs.List.{flat_map}
 use Rattle.std.proofs.Math.ListN.{drop_of_length-le}
 use Rattle.std.proofs.Math.Seq.{take-add, take-append-add}
 use Rattle.std.proofs.lemmas.Bool.{cases_lt}
 use Rattle.std.proofs.lemmas.Grind.{flat_map-append}
-use Rattle.std.proofs.lemmas.List.{drop-take, take-append-drop, take-take, take_all, take_at, take_more}
+use Rattle.std.proofs.lemmas.List.{drop-drop, drop-take, length-take-le, take-append-drop, take-take, take_all, take_at, take_more}
 use Rattle.lis_ports.specs.Bytes.{Torn, part, put}
 use Rattle.lis_ports.proofs.Parts.{part-put, put_between, torn-put}
 use Rattle.lis_model.specs.State.{blocks_needed}
@@ -13,13 +13,16 @@ use Rattle.lis_content.specs.Large.{content_blocks, file_blocks, is_large, slot_
 use Rattle.lis_content.proofs.Indexes.{large_blocks, large_numbers, length-numbers_of, small_blocks, small_numbers, small_slot}
 use Rattle.lis_content.proofs.Reading.{IsFilled}
 
--- a prefix of a prefix, whichever is longer
-both_fronts : (m n : ℕ) (xs : List ℕ) → take m (take n xs) ≡ take n (take m xs)
-both_fronts m n xs = by (cases_lt m n)
+-- a prefix of a prefix is the shorter one
+take_shorter : (m n k : ℕ) (xs : List ℕ) → k ≡ min m n → take m (take n xs) ≡ take k xs
+take_shorter m n k xs is_k = by (cases_lt m n)
   where
-    by : (m < n) ⊎ (n ≤ m) → take m (take n xs) ≡ take n (take m xs)
-    by (inl lt) = take-take m n xs (omega (arith, lt)) ∙ sym (take_all n (take m xs) (omega (arith, length-take m xs, lt)))
-    by (inr le) = take_all m (take n xs) (omega (arith, length-take n xs, le)) ∙ sym (take-take n m xs le)
+    by : (m < n) ⊎ (n ≤ m) → take m (take n xs) ≡ take k xs
+    by (inl lt) = take-take m n xs (omega (arith, lt)) ∙ ap (λ i. take i xs) (let same : m ≡ k = omega (arith, lt, is_k) in same)
+    by (inr le) = take_all m (take n xs) (omega (arith, length-take n xs, le)) ∙ ap (λ i. take i xs) (let same : n ≡ k = omega (arith, le, is_k) in same)
+
+both_fronts : (m n : ℕ) (xs : List ℕ) → take m (take n xs) ≡ take n (take m xs)
+both_fronts m n xs = take_shorter m n (min m n) xs refl ∙ sym (take_shorter n m (min m n) xs (omega arith))
 
 module _ (at size : ℕ) where
   -- what follows an index of a prefix
@@ -32,22 +35,7 @@ module _ (at size : ℕ) where
           let none : size - at ≡ 0 = omega (arith, le) in
           drop_of_length-le (take size xs) {i = at} (omega (arith, length-take size xs, le)) ∙ sym (ap (λ i. take i (drop at xs)) none)
 
--- what a read into a part of the memory leaves
-module _ (at end : ℕ) (old read : List ℕ) (is_end : end ≡ at + 4096) (whole : length read ≡ 4096) (room : at + 4096 ≤ length old) where
-  same_put : take at old ++ (read ++ drop (end - at) (drop at old)) ≡ put old at read
-  same_put =
-      let width : end - at ≡ length read = omega (arith, is_end, whole) in
-      ap (λ n. take at old ++ (read ++ drop n (drop at old))) width ∙ put_between old at read
-
-  pub torn_between : Torn at 4096 old (take at old ++ (read ++ drop (end - at) (drop at old)))
-  torn_between =
-      subst (λ xs. Torn at 4096 old xs) (sym same_put) (subst (λ n. Torn at n old (put old at read)) whole (torn-put old at read (omega (arith, whole, room))))
-
-  pub part_between : part at 4096 (take at old ++ (read ++ drop (end - at) (drop at old))) ≡ read
-  part_between =
-      ap (part at 4096) same_put ∙ subst (λ n. part at n (put old at read) ≡ read) whole (part-put old at read (omega (arith, whole, room)))
-
--- what was written into the first bytes of the memory is written into the bytes
+-- what was written into a part of the memory is written into its first `size` bytes
 torn_front : (at n size : ℕ) (old new : List ℕ) → at ≤ size → Torn at n old new → Torn at n (take size old) (take size new)
 torn_front at n size old new le torn = record {
   len = length-take size new ∙ (ap (λ l. min size l) torn.len ∙ sym (length-take size old));
@@ -55,13 +43,42 @@ torn_front at n size old new le torn = record {
   after = behind_front (at + n) size new ∙ (ap (take (size - (at + n))) torn.after ∙ sym (behind_front (at + n) size old));
 }
 
--- the same, of what is kept of both
-pub torn_kept : (at n size : ℕ) (old new before after : List ℕ) → before ≡ take size old → after ≡ take size new → at ≤ size → Torn at n old new → Torn at n before after
-torn_kept at n size old new before after was is le torn =
-    subst (λ xs. Torn at n before xs) (sym is) (subst (λ xs. Torn at n xs (take size new)) (sym was) (torn_front at n size old new le torn))
+torn_wider : (at n m : ℕ) (old new : List ℕ) → n ≤ m → Torn at n old new → Torn at m old new
+torn_wider at n m old new le torn =
+    let rest : at + n + (m - n) ≡ at + m = omega (arith, le) in
+    let past = λ (xs : List ℕ). drop-drop (m - n) (at + n) xs ∙ ap (λ i. drop i xs) rest in
+    record { len = torn.len; before = torn.before; after = sym (past new) ∙ (ap (drop (m - n)) torn.after ∙ past old) }
 
-pub part_front : (at n size : ℕ) (new block : List ℕ) → part at n new ≡ block → part at n (take size new) ≡ take (size - at) block
-part_front at n size new block is = ap (take n) (behind_front at size new) ∙ (both_fronts n (size - at) (drop at new) ∙ ap (take (size - at)) is)
+-- what a read into a part of the memory leaves, by the first `size` bytes: of a block it takes as much as there is room for
+module _ (at count size : ℕ) (old read : List ℕ) (same : length read ≡ length (take (at + count - at) (drop at old))) (is_count : count ≡ min (size - at) 4096) (inside : at < size) (there : size ≤ length old) where
+  abbrev now : List ℕ
+  now = take at old ++ (read ++ drop (at + count - at) (drop at old))
+
+  whole : length read ≡ count
+  whole = same ∙ (length-take-le (at + count - at) (drop at old) (omega (arith, length-drop at old, is_count, inside, there)) ∙ omega arith)
+
+  room : at + length read ≤ length old
+  room = omega (arith, whole, is_count, inside, there)
+
+  same_put : now ≡ put old at read
+  same_put =
+      let width : at + count - at ≡ length read = omega (arith, whole) in
+      ap (λ n. take at old ++ (read ++ drop n (drop at old))) width ∙ put_between old at read
+
+  pub torn_between : Torn at 4096 (take size old) (take size now)
+  torn_between =
+      let torn = subst (λ xs. Torn at count old xs) (sym same_put) (subst (λ n. Torn at n old (put old at read)) whole (torn-put old at read room)) in
+      torn_wider at count 4096 (take size old) (take size now) (omega (arith, is_count)) (torn_front at count size old now (omega (arith, inside)) torn)
+
+  pub part_between : (block : List ℕ) → length block ≡ 4096 → read ≡ take (length (take (at + count - at) (drop at old))) block → part at 4096 (take size now) ≡ take (size - at) block
+  part_between block len is_read =
+      ap (take 4096) (behind_front at size now)
+      ∙ (take_shorter 4096 (size - at) count (drop at now) (omega (arith, is_count))
+      ∙ (ap (part at count) same_put
+      ∙ (subst (λ n. part at n (put old at read) ≡ read) whole (part-put old at read room)
+      ∙ (is_read
+      ∙ (ap (λ n. take n block) (sym same ∙ whole)
+      ∙ (sym (take_shorter (size - at) 4096 count block is_count) ∙ ap (take (size - at)) (take_all 4096 block (omega (arith, len)))))))))
 
 -- ---- the bytes of a file so far
 -- one more block is read as its part

@@ -1,21 +1,12 @@
 -- How a `Buffer` keeps its bytes, and what its reads need. No public clause cites this module.
-use Rattle.std.specs.Prelude.{◌≡◌, ℕ, ◌+◌, ◌<◌, ◌≤◌, List, [], length, take, unwrap_or}
+use Rattle.std.specs.Prelude.{◌≡◌, ℕ, ◌+◌, ◌<◌, ◌≤◌, List, length}
 use Rattle.lis_limits.specs.declared.TheConstants.{BLOCK_LEN, V3_MAX_FILE}
-use Rattle.lis_region.specs.Region.{Region, get, HasFrame}
 
--- the bytes of the frame
-abbrev pub frame_bytes : Region ℕ → ℕ → List ℕ
-frame_bytes region frame = unwrap_or (get region frame) []
-
--- the first `size` of them
-abbrev pub kept_bytes : Region ℕ → ℕ → ℕ → List ℕ
-kept_bytes region frame size = take size (frame_bytes region frame)
-
--- the frame is taken, and has room for the bytes of any file
-pub record IsKept (region : Region ℕ) (frame size : ℕ) : Type 0 where
-  pub taken : HasFrame region frame
-  pub wide : length (frame_bytes region frame) ≡ V3_MAX_FILE
+-- the bytes that count are there, and there is room for those of any file
+pub record IsKept (bytes : List ℕ) (capacity size : ℕ) : Type 0 where
+  pub there : size ≤ length bytes
   pub within : size ≤ V3_MAX_FILE
+  pub room : V3_MAX_FILE ≤ capacity
 
 -- a block of the image with this number is whole
 abbrev pub IsWhole : ℕ → ℕ → (ℕ → List ℕ) → ℕ → Type 0

@@ -3,3 +3,4 @@ mod Stride
 pub mod Touched
 mod Bits
 pub mod Counted
+mod ByList

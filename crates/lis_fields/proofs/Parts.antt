@@ -7,7 +7,7 @@ use Rattle.lis_words.proofs.Bytes.{length_padded}
 use Rattle.lis_words.proofs.Tests.{word_is_property, property_short}
 use Rattle.lis_model.specs.State.{is_declarable, file_limit, blocks_needed}
 use Rattle.lis_model.specs.declared.limits.Limits.{Limits}
-use Rattle.lis_model.proofs.Stored.{limit_le}
+use Rattle.lis_model.proofs.Ranges.{limit_le}
 use Rattle.lis_fields.specs.Records.{FileRecord}
 use Rattle.lis_fields.specs.Layouts.{zeros, text_bytes, named, prop_bytes, is_prop, is_undeclared, file_start, number_width, numbers, record_bytes, file_bytes, are_tags, slot_blocks, are_blocks, is_record, is_file}
 use Rattle.lis_fields.specs.declared.slots.PropSlot.{PropSlot}

@@ -5,7 +5,7 @@ use Rattle.std.proofs.lemmas.Bool.Decides.{nat_tests}
 use Rattle.std.proofs.lemmas.List.{drop_more}
 use Rattle.lis_model.specs.declared.limits.Limits.{Limits}
 use Rattle.lis_model.specs.Ranges.{is_files_limit, is_props_limit, is_blocks_limit, is_version, are_in_range}
-use Rattle.lis_model.proofs.Stored.{stored_parts, stored_range, within_most}
+use Rattle.lis_model.proofs.Ranges.{early_limits, few_limits}
 use Rattle.lis_fields.specs.Layouts.{zeros, super_start, super_numbers, gate_version, is_gate, version_gate, super_with, super_bytes, SpellsSuper}
 use Rattle.lis_fields.proofs.Widths.{joined, same_number, length_zeros}
 
@@ -17,7 +17,7 @@ pub record FitsSuper (limits : Limits) : Type 0 where
 
 pub super_fits : (limits : Limits) → IsTrue (are_in_range limits) → FitsSuper limits
 super_fits limits h =
-    let most = within_most limits h in
+    let most = few_limits limits h in
     record { files = omega (arith, most.files); props = omega (arith, most.props); blocks = omega (arith, most.blocks) }
 
 abbrev limits_of : ℕ → ℕ → ℕ → ℕ → Limits
@@ -158,15 +158,9 @@ super_torn limits old new one is len front behind = by (gate == 2) (subst (λ xs
     by true spells = inr spells
     by false spells = inl (subst (λ l. SpellsSuper l new) (ap (λ version. with_version version limits) (sym one)) spells)
 
--- limits of version 1 or 2 are so in version 2
-pub upgraded_stored : (limits : Limits) → IsTrue (are_in_range limits) → IsTrue (are_in_range (with_version 2 limits))
-upgraded_stored limits h =
-    let parts = stored_parts limits h in
-    and_from (are_in_range (with_version 2 limits)) (nat_le 2 2)
-    (and_from (is_files_limit 2 limits.files && is_props_limit 2 limits.props && is_blocks_limit 2 limits.blocks) (is_version 2)
-    (and_from (is_files_limit 2 limits.files && is_props_limit 2 limits.props) (is_blocks_limit 2 limits.blocks)
-    (and_from (is_files_limit 2 limits.files) (is_props_limit 2 limits.props) parts.files parts.props) parts.blocks) refl) refl
-
 pub upgraded_in_range : (limits : Limits) → limits.version ≡ 1 → IsTrue (are_in_range limits) → IsTrue (are_in_range (with_version 2 limits))
 upgraded_in_range limits one h =
-    stored_range (with_version 2 limits) (upgraded_stored limits (and_from (are_in_range limits) (nat_le limits.version 2) h (subst (λ version. nat_le version 2 ≡ true) (sym one) refl)))
+    let parts = early_limits limits h (ap (λ version. version == 3) one) in
+    and_from (is_files_limit 2 limits.files && is_props_limit 2 limits.props && is_blocks_limit 2 limits.blocks) (is_version 2)
+    (and_from (is_files_limit 2 limits.files && is_props_limit 2 limits.props) (is_blocks_limit 2 limits.blocks)
+    (and_from (is_files_limit 2 limits.files) (is_props_limit 2 limits.props) parts.files parts.props) parts.blocks) refl

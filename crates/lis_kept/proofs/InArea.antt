@@ -1,7 +1,7 @@
 -- In which blocks an area is, and its slots in a block.
 use Rattle.std.proofs.Common.{arith, ap, cond, min}
-use Rattle.lis_kept.proofs.Common.{rules, both_ways, ◌≡◌, ◌⊎◌, inl, inr, sym, ℕ, ◌+◌, ◌*◌, ◌-◌, ◌/◌, ◌%◌, ◌<◌, ◌≤◌, ◌==◌, Bool, true, false, List, IsTrue, refl, subst, Limits, are_in_range, bitmap_start, data_start}
-use Rattle.std.specs.Prelude.{◌^◌, Unit}
+use Rattle.lis_kept.proofs.Common.{rules, ◌≡◌, ◌⊎◌, inl, inr, sym, ℕ, ◌+◌, ◌*◌, ◌-◌, ◌/◌, ◌%◌, ◌<◌, ◌≤◌, ◌==◌, Bool, true, false, List, IsTrue, refl, subst, Limits, are_in_range, bitmap_start, data_start}
+use Rattle.std.specs.Prelude.{◌^◌}
 use Rattle.std.proofs.Math.Nat.{div-lt_iff_lt-mul, div-add-mod}
 use Rattle.lis_model.specs.Ranges.{is_files_limit, is_props_limit}
 use Rattle.lis_fields.specs.Layouts.{number_width}
@@ -163,12 +163,15 @@ HasArea limits Bitmap = Unit {0}
 -- no block is in two areas
 same_area : (limits : Limits) (n m : ℕ) (a b : Area) → HasArea limits a → m < (slots_of limits b).count
     → (slots_of limits a).first ≤ n → n < end_of limits a → (slots_of limits b).first ≤ n → n < end_of limits b → a ≡ b
-same_area limits n m a b has some from to from' to' = search (rules, some_are_early, some_are_third, both_ways)
+same_area limits n m a b has some from to from' to' = search (rules, third_rows, early_sets)
 
 -- a block that spells the slots of its area
 pub one_area : (k : Metadata) → IsTrue (are_in_range k.limits) → (area : Area) → HasArea k.limits area → (n : ℕ) (block : List ℕ) → (slots_of k.limits area).first ≤ n → n < end_of k.limits area
     → ((m : ℕ) → m < (slots_of k.limits area).count → block_of k.limits area m ≡ n → bytes_in k.limits area m block ≡ spelled k area m) → IsBlock k n block
-one_area k range area has n block from to is = search (rules, in_area, same_area)
+one_area k range area has n block from to is = λ other m lt here.
+    let inside = in_area k.limits range other m lt in
+    let same : area ≡ other = same_area k.limits n m area other has lt from to (subst (λ b. (slots_of k.limits other).first ≤ b) here inside.0) (subst (λ b. b < end_of k.limits other) here inside.1) in
+    subst (λ a. (j : ℕ) → j < (slots_of k.limits a).count → block_of k.limits a j ≡ n → bytes_in k.limits a j block ≡ spelled k a j) same is m lt here
 
 -- a slot, by its block
 pub held_by : (limits : Limits) (area : Area) (m : ℕ) → m < (slots_of limits area).count → (at : ℕ → List ℕ) → held_in limits area at m ≡ bytes_in limits area m (at (block_of limits area m))

@@ -81,7 +81,7 @@ module _ (k : Metadata) (n : ℕ) (old now : Held) (within : n < length k.marks)
 -- no block in a row of blocks is marked
 pub staged_over : (k : Metadata) (old now : Held) (from d : ℕ) → d + from ≤ length k.marks → properties_start k.limits ≤ from → ((j : ℕ) → from ≤ j → j < d + from → is_marked k j ≡ false)
     → StagedBelow k from old now → StagedBelow k (d + from) old now
-staged_over k old now from zero within low none so_far = so_far
+staged_over k old now from zero within low none so_far = subst (λ n. StagedBelow k n old now) (omega arith) so_far
 staged_over k old now from (suc d) within low none so_far =
     subst (λ n. StagedBelow k n old now) (omega arith) (staged_past k (d + from) old now (omega (arith, within)) (omega (arith, low))
     (staged_over k old now from d (omega (arith, within)) low (λ j ge lt. none j ge (omega (arith, lt))) so_far) (none (d + from) (omega arith) (omega arith)))

@@ -1,5 +1,5 @@
 use Rattle.std.proofs.Common.{arith, ◌-◌, ◌*◌, ◌^◌}
-use Rattle.lis_kept.proofs.Common.{◌≡◌, ℕ, ◌+◌, ◌<◌, ◌≤◌, nat_lt, lt-ltb, all_from, Contains-get_or, Among, among_from_contains}
+use Rattle.lis_kept.proofs.Common.{◌≡◌, ℕ, ◌+◌, ◌<◌, ◌≤◌, nat_lt, ap, ◌∙◌, lt-ltb, all_from, Contains-get_or, Among, among_from_contains}
 use Rattle.lis_fields.specs.Layouts.{set_bytes}
 use Rattle.lis_ext.specs.Ext.{set_of}
 use Rattle.lis_ext.proofs.Counted.{each_below}
@@ -18,4 +18,4 @@ pub loop-k-preserved : goal.loop-k-preserved
 loop-k-preserved c =
     one_slot_more 512 c.loop-k.k _ _ (λ j. set_bytes (set_of c.args.ext.now (c.args.first + j))) c.loop-k.block c.write_set.new.bytes
     (omega arith) (omega arith) (omega (arith, c.loop-k-test.true, c.loop-k.auto.block, c.requires.block))
-    c.write_set.auto.bytes c.write_set.ensures c.loop-k.invariant
+    c.write_set.auto.bytes (c.write_set.ensures ∙ ap set_bytes c.numbers.ensures.numbers) c.loop-k.invariant

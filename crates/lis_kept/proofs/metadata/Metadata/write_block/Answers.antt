@@ -1,12 +1,12 @@
-use Rattle.std.proofs.Common.{arith, ◌*◌, ◌+◌, ◌-◌, ◌/◌, ◌≤◌}
-use Rattle.lis_kept.proofs.Common.{◌≡◌, ◌<◌, ℕ, true, eq-eqb, ne_eqb, List, sym, subst, bitmap_start, AxiomSlot, IsTrue, are_in_range}
+use Rattle.std.proofs.Common.{arith, eq-eqb, ◌*◌, ◌+◌, ◌-◌, ◌/◌, ◌≤◌}
+use Rattle.lis_kept.proofs.Common.{◌≡◌, ◌<◌, ℕ, true, ne_eqb, List, sym, subst, bitmap_start, AxiomSlot, IsTrue, are_in_range}
 use Rattle.lis_model.proofs.Ranges.{third_descriptions}
 use Rattle.lis_fields.specs.Layouts.{is_axiom}
 use Rattle.lis_kept.specs.Metadata.{Metadata, axiom_at}
 use Rattle.lis_kept.specs.Inside.{IsBlock}
 use Rattle.lis_kept.specs.contracts.metadata.Metadata.{the_view}
 use Rattle.lis_model.specs.Image.{properties_start, descriptions_start, description_blocks}
-use Rattle.lis_kept.proofs.InArea.{rows_few, rows_fill, whole_files}
+use Rattle.lis_kept.proofs.InArea.{rows_few, rows_fill, whole_files, few_files}
 use Rattle.lis_kept.proofs.Formed.{axioms_formed, records_formed}
 use Rattle.lis_kept.proofs.Spelled.{properties_block, axioms_block, files_block, rows_block, sets_block}
 use Rattle.lis_kept.proofs.metadata.Metadata.write_block.Goals as goal
@@ -46,6 +46,18 @@ within_part : (k now : Metadata) (n start : ℕ) → k ≡ now → start ≡ des
 within_part k now n start is from low to =
     let below : n < bitmap_start k.limits = subst (λ (m : Metadata). n < bitmap_start m.limits) (sym is) to in
     omega (arith, below, from, low)
+
+pub overflow_mul-n : goal.overflow_mul-n
+overflow_mul-n c =
+    let k = the_view c.self.inside in
+    let within = within_part k c.args.self.now c.args.n c.descriptions_start-descriptions.result c.self.view_is c.descriptions_start-descriptions.ensures c.if-n-descriptions.false c.requires.to in
+    omega (arith, within, third_descriptions k.limits (eq-eqb k.limits.version 3 c.if-self-eq3.true), few_files k.limits c.self.invariant.sound.range)
+
+pub write_sets-requires-clause-few : goal.write_sets-requires-clause-few
+write_sets-requires-clause-few c =
+    let k = the_view c.self.inside in
+    let within = within_part k c.args.self.now c.args.n c.descriptions_start-descriptions.result c.self.view_is c.descriptions_start-descriptions.ensures c.if-n-descriptions.false c.requires.to in
+    omega (arith, within, third_descriptions k.limits (eq-eqb k.limits.version 3 c.if-self-eq3.true), few_files k.limits c.self.invariant.sound.range)
 
 pub write_sets-requires-clause-within : goal.write_sets-requires-clause-within
 write_sets-requires-clause-within c =
