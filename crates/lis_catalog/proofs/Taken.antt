@@ -1,5 +1,5 @@
 -- Where all slots below one have files, a search for a free slot starts from that one.
-use Rattle.std.proofs.Common.{◌≡◌, ◌⊎◌, ℕ, zero, suc, ◌+◌, ◌<◌, ◌≤◌, Bool, true, false, cond, nat_lt, is_some, is_none, Option, Some, None, List, [], ◌∷◌, length, drop, get_or, set, refl, sym, ap, subst, ◌∙◌, inl, inr, arith, length-drop, get_or-set_same, get_or-set_other}
+use Rattle.std.proofs.Common.{◌≡◌, ◌⊎◌, ℕ, zero, suc, ◌+◌, ◌<◌, ◌≤◌, Bool, true, false, cond, nat_lt, is_some, is_none, Option, Some, None, [], ◌∷◌, length, drop, get_or, set, refl, sym, ap, subst, ◌∙◌, inl, inr, arith, length-drop, get_or-set_same, get_or-set_other}
 use Rattle.std.specs.List.{position, position_or_len}
 use Rattle.std.proofs.lemmas.Bool.{cases_eq, ltb-true, ltb-false, lt-ltb, le-ltb}
 use Rattle.std.proofs.lemmas.List.Quantifiers.{position-Some}
