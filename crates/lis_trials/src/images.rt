@@ -133,9 +133,13 @@ fn each_word_that_opens_an_image_judges_it(rt: HostRuntime) -> Result<(), Fail> 
 
 #[test]
 fn no_image_is_made_of_a_byte_less(rt: HostRuntime) -> Result<(), Fail> {
-    for words in &MAKES {
-        let (status, _, shown) = on_zeros(rt.alloc(), words, 2_433_023)?;
-        let wanted = Status::Opening(OpenFault::TooShort(2_433_023, 2_433_024));
+    for (words, less, need) in [
+        (MAKES[0], 2_433_023, 2_433_024),
+        (MAKES[1], 2_433_023, 2_433_024),
+        (MAKES[2], 4_591_615, 4_591_616),
+    ] {
+        let (status, _, shown) = on_zeros(rt.alloc(), words, less as usize)?;
+        let wanted = Status::Opening(OpenFault::TooShort(less, need));
         assert!(rt; status == wanted, "{words:?}");
         assert!(rt; shown == 0, "{words:?}");
     }
