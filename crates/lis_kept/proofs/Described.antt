@@ -82,10 +82,17 @@ module _ (p : Metadata) (t : Taxonomy) (held : AreHeld p t) (slot : ℕ) (old ne
   as_many : length e.sets ≡ length p.ext.sets
   as_many = ap length sets ∙ length-set p.ext.sets slot new
 
+  rising : (s : ℕ) → s < length e.sets → IsStrictlyIncreasing (set_of e s)
+  rising s lt = by (cases_eq s slot)
+    where
+      by : (s ≡ slot) ⊎ (s ≡ slot → ⊥) → IsStrictlyIncreasing (set_of e s)
+      by (inl is) = subst (λ n. IsStrictlyIncreasing (set_of e n)) (sym is) (subst IsStrictlyIncreasing (sym set_in) rises)
+      by (inr differ) = subst IsStrictlyIncreasing (sym (set_at s differ)) (kept.rise s (omega (arith, lt, as_many)))
+
   held_described : AreHeld described t
   held_described =
       held_files p t p.catalog p.taken e marks held
-      (assumption (as_many, is_named, ap length are_marks ∙ length-marked p.marks (map (description_home p.limits slot) (numbers_where p.ext.props (differs old new)))))
+      (assumption (as_many, is_named, rising, ap length are_marks ∙ length-marked p.marks (map (description_home p.limits slot) (numbers_where p.ext.props (differs old new)))))
     where
       by : (n s : ℕ) → (s ≡ slot) ⊎ (s ≡ slot → ⊥) → IsSome (rec_at p.catalog s) → has e n s ≡ true → IsSome (word_of p.dict n)
       by n s h1 there has_it = search (rules, new_named, set_in, set_at)

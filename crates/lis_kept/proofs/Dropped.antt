@@ -58,6 +58,7 @@ module _ (p : Metadata) (t : Taxonomy) (held : AreHeld p t) {slot : ℕ} {c : Ca
     rows = refl;
     files = refl;
     named = λ n s. named_at n s (cases_eq s slot);
+    rising = held.sound.rising;
     settled = held.sound.settled;
     as_many = ap length one.marked ∙ length-set p.marks (block_of p.limits Files slot) true;
   })

@@ -2,6 +2,7 @@
 use Rattle.std.proofs.Common.{◌^◌, unwrap_or, arith}
 use Rattle.lis_kept.proofs.Common.{rules, data_start, ◌≡◌, ◌⊎◌, inl, inr, ℕ, ◌-◌, ◌<◌, ◌≤◌, ◌&&◌, nat_lt, Bool, true, false, List, [], length, Option, Some, None, is_some, slice_get, IsSome, refl, sym, ap, ◌∙◌, list_all, and_parts, lt-ltb, cases_lt, get_or_from_slice_get, Dict, word_of, number_from_word, number_below, Catalog, IsCatalog, rec_at, Ext, has, Taxonomy, FileRecord, AxiomSlot, FreeAxiom, Pair, and_from, both_ways, false_from_ne_true, get_or_past, Limits}
 use Rattle.std.specs.List.{All}
+use Rattle.std.specs.List.Sorted.{IsStrictlyIncreasing}
 use Rattle.std.proofs.lemmas.Option.{unwrap_or-slice_get}
 use Rattle.lis_ext.specs.Ext.{set_of}
 use Rattle.lis_ext.proofs.Counted.{each_below}
@@ -100,6 +101,7 @@ pub record FilesHold (p : Metadata) (catalog : Catalog) (taken : List Bool) (ext
   pub blocks : length taken ≡ length p.taken
   pub rows : ext.props ≡ p.ext.props
   pub files : length ext.sets ≡ length p.ext.sets
+  pub rising : (slot : ℕ) → slot < length ext.sets → IsStrictlyIncreasing (set_of ext slot)
   pub named : (n slot : ℕ) → IsSome (rec_at catalog slot) → has ext n slot ≡ true → IsSome (word_of p.dict n)
   pub settled : ext.marks ≡ []
   pub as_many : length marks ≡ length p.marks

@@ -131,6 +131,7 @@ module _ (p : Metadata) (sound : AreSound p) {number : ℕ} {d : Dict} {bits mar
     files = sound.files;
     named = λ n slot file has_it.
         some_stays n (λ same. both_ways (has p.ext number slot) (w.unnamed.had slot file) (subst (λ m. has p.ext m slot ≡ true) same has_it)) (sound.named n slot file has_it);
+    rising = sound.rising;
     settled = sound.settled;
     marks = omega (arith, ap length w.marked, length-set p.marks (block_of p.limits Properties number) true, sound.marks);
   }

@@ -4,7 +4,8 @@ use Rattle.std.specs.List.{list_all}
 use Rattle.lis_blockmap.specs.Bitmap.{is_taken}
 use Rattle.lis_dict.specs.Dict.{Dict, IsDict, number_of, word_of}
 use Rattle.lis_catalog.specs.Catalog.{IsCatalog, rec_at}
-use Rattle.lis_ext.specs.Ext.{has}
+use Rattle.std.specs.List.Sorted.{IsStrictlyIncreasing}
+use Rattle.lis_ext.specs.Ext.{has, set_of}
 use Rattle.lis_fields.specs.Records.{FileRecord}
 use Rattle.lis_fields.specs.declared.slots.AxiomSlot.TheVariants.{Pair}
 use Rattle.lis_fields.specs.Layouts.{is_prop, is_record}
@@ -45,6 +46,8 @@ pub record AreSound (k : Metadata) : Type 0 where
   pub blocks : length k.taken ≡ k.limits.blocks
   pub rows : k.ext.props ≡ k.limits.props
   pub files : length k.ext.sets ≡ k.limits.files
+  -- the numbers of each set rise
+  pub rising : (slot : ℕ) → slot < length k.ext.sets → IsStrictlyIncreasing (set_of k.ext slot)
   -- each number of a file's description has a word
   pub named : (n slot : ℕ) → IsSome (rec_at k.catalog slot) → has k.ext n slot ≡ true → IsSome (word_of k.dict n)
   -- rows that changed are marked by their blocks alone

@@ -11,8 +11,8 @@ use lis_catalog::Catalog;
 use lis_dict::Dict;
 use lis_fields::{AxiomSlot, FileRec, FileSlot, PropSlot, write_axiom, write_file, write_prop};
 use lis_limits::{
-    AXIOM_LEN, AXIOMS_PER_BLOCK, BLOCK_LEN, FILE_LEN, FILES_PER_BLOCK, V3_MAX_FILES, V3_MAX_PROPS,
-    PROP_LEN, PROPERTIES_PER_BLOCK,
+    AXIOM_LEN, AXIOMS_PER_BLOCK, BLOCK_LEN, FILE_LEN, FILES_PER_BLOCK, PROP_LEN,
+    PROPERTIES_PER_BLOCK, V3_MAX_FILES, V3_MAX_PROPS,
 };
 use lis_model::limits::Limits;
 

@@ -45,7 +45,7 @@ pub use Rattle.lis_kept.proofs.Used.{had_at, used_flagged, used_had, used_left}
 pub use Rattle.lis_kept.proofs.Without.{left_out}
 pub use Rattle.lis_kept.proofs.WordMore.{declared_there, flat_all}
 pub use Rattle.lis_kept.specs.Areas.{IsSaved, IsWritten, axiom_slots, block_of, is_marked, marked_count}
-pub use Rattle.lis_kept.specs.Areas.Area.{Axioms, Bitmap, Files, Properties, Rows}
+pub use Rattle.lis_kept.specs.Areas.Area.{Axioms, Bitmap, Files, Properties, Rows, Sets}
 pub use Rattle.lis_kept.specs.Changes.{Describes, GivesBack, Puts}
 pub use Rattle.lis_kept.specs.Forgetting.{KeepsInUse, MayForget, emptied}
 pub use Rattle.lis_kept.specs.Metadata.{Metadata, property_by}

@@ -1,6 +1,6 @@
 -- A blank image has no words and no files: it represents the empty state.
 use Rattle.std.proofs.Common.{rules}
-use Rattle.lis_store.proofs.Common.{◌≡◌, refl, sym, ap, ◌∙◌, ℕ, zero, suc, ◌+◌, ◌-◌, ◌*◌, ◌/◌, ◌<◌, ◌≤◌, ◌≢◌, false, List, [], get_or, take, replicate, slice_get, slice_index, Some, IsTrue, arith, ◌==◌, insert_key, Contains, length-replicate, get_or-replicate, slice_get_within, get_or_from_slice_get, among_from_contains, part, block, is_taken, Dict, IsDict, has, SpellsSuper, AxiomSlot, FreeAxiom, Pair, Limits, are_in_range, bitmap_start, data_start, State, pair_cmp, Metadata, IsWritten, axiom_slots, Properties, Axioms, Bitmap, AreSound, Tells, among_slots, list_any, Meaning, both_ways, Files, Rows, true, KeepsInUse, is_linked}
+use Rattle.lis_store.proofs.Common.{◌≡◌, refl, sym, ap, ◌∙◌, ℕ, zero, suc, ◌+◌, ◌-◌, ◌*◌, ◌/◌, ◌<◌, ◌≤◌, ◌≢◌, false, List, [], get_or, take, replicate, slice_get, slice_index, Some, IsTrue, arith, ◌==◌, insert_key, Contains, length-replicate, get_or-replicate, slice_get_within, get_or_from_slice_get, among_from_contains, part, block, is_taken, Dict, IsDict, has, SpellsSuper, AxiomSlot, FreeAxiom, Pair, Limits, are_in_range, bitmap_start, data_start, State, pair_cmp, Metadata, IsWritten, axiom_slots, Properties, Axioms, Bitmap, AreSound, Tells, among_slots, list_any, Meaning, both_ways, Files, Rows, Sets, true, KeepsInUse, is_linked}
 use Rattle.std.specs.List.{fold}
 use Rattle.std.proofs.lemmas.List.{drop-replicate, take-replicate, take-take}
 use Rattle.lis_slots.specs.Slots.{Slots, home, place, slot}
@@ -9,13 +9,13 @@ use Rattle.lis_blockmap.specs.Bitmap.{bitmap_bytes}
 use Rattle.lis_catalog.specs.Catalog.{IsCatalog}
 use Rattle.lis_ext.specs.Ext.{set_of}
 use Rattle.lis_ext.specs.Numbers.{has_number as has_in}
-use Rattle.lis_fields.specs.Layouts.{zeros, super_with, prop_bytes, axiom_bytes, file_bytes}
+use Rattle.lis_fields.specs.Layouts.{zeros, super_with, prop_bytes, axiom_bytes, file_bytes, set_bytes}
 use Rattle.lis_model.specs.State.{empty_state}
 use Rattle.lis_laws.proofs.Steps.{empty_formed}
 use Rattle.lis_kept.specs.Areas.{Area, slots_of, row_slots}
 use Rattle.lis_kept.specs.Telling.{pairs_told}
-use Rattle.lis_model.proofs.Stored.{stored_range, each_files_limit}
-use Rattle.lis_kept.proofs.InArea.{some_properties, whole_files, files_range}
+use Rattle.lis_model.proofs.Ranges.{early_limits, each_files_limit}
+use Rattle.lis_kept.proofs.InArea.{some_properties, whole_files, some_are_early}
 use Rattle.lis_kept.proofs.Spelled.{row_bytes_none}
 use Rattle.lis_store.specs.Blank.{IsBlank}
 use Rattle.lis_store.specs.Stands.{Stands}
@@ -72,6 +72,7 @@ module _ (limits : Limits) (blocks : ℕ) where
         rows = refl;
         files = length-replicate {A = List ℕ} limits.files [];
         named = λ n at some had. absurd (both_ways (has metadata.ext n at) (no_set n at) had);
+        rising = λ at lt. search (rules, get_or-replicate);
         settled = refl;
         marks = search (rules, length-replicate);
       }
@@ -100,8 +101,8 @@ unfolding bitmap_bytes zeros
 bitmap-none n blocks = sym (bytes_none 4096 (λ k. is_taken (replicate blocks false) (32768 * n + k)) (λ k. none_set blocks (32768 * n + k)))
 
 -- a row ends inside its block
-row_within : (limits : Limits) (k : ℕ) → IsTrue (are_in_range limits) → place (row_slots limits) k + (row_slots limits).width ≤ 4096
-row_within limits k range = search (rules, each_files_limit, files_range)
+row_within : (limits : Limits) (k : ℕ) → IsTrue (are_in_range limits) → (limits.version == 3) ≡ false → place (row_slots limits) k + (row_slots limits).width ≤ 4096
+row_within limits k range early = search (rules, each_files_limit, (early_limits limits range early).files)
 
 no_pairs : (n : ℕ) (dict : Dict) → pairs_told dict (replicate n FreeAxiom) ≡ []
 no_pairs zero dict = refl
@@ -118,22 +119,24 @@ module _ (limits : Limits) (blocks : ℕ) (image : List ℕ) (range : IsTrue (ar
   zero_at area n lt = let inside = among_slots limits range area n lt in blank.homes (home (slots_of limits area) n) inside.0 inside.1
 
   pub written_empty : IsWritten (empty_metadata limits blocks) at
-  unfolding prop_bytes axiom_bytes file_bytes zeros
+  unfolding prop_bytes axiom_bytes file_bytes set_bytes zeros
   written_empty Properties n lt = free_slot (slots_of limits Properties) at n (zero_at Properties n lt) (omega arith)
   written_empty Axioms n lt =
       free_slot (slots_of limits Axioms) at n (zero_at Axioms n lt) (omega arith)
       ∙ ap axiom_bytes (sym (get_or-replicate (axiom_slots limits).count n FreeAxiom FreeAxiom lt))
   written_empty Files n lt = free_slot (slots_of limits Files) at n (zero_at Files n lt) (omega arith)
   written_empty Rows n lt =
-      free_slot (slots_of limits Rows) at n (zero_at Rows n lt) (row_within limits n range)
+      free_slot (slots_of limits Rows) at n (zero_at Rows n lt) (row_within limits n range (some_are_early limits n lt))
       ∙ row_bytes_none (empty_metadata limits blocks).ext n (limits.files / 8) (omega (arith, length-replicate {A = List ℕ} limits.files [], whole_files limits range)) (λ file. no_set limits blocks n file)
+  written_empty Sets n lt =
+      free_slot (slots_of limits Sets) at n (zero_at Sets n lt) (omega arith) ∙ ap set_bytes (sym (empty_set limits blocks n))
   written_empty Bitmap n lt = blank.homes (bitmap_start limits + n) (omega arith) (omega (arith, lt)) ∙ sym (bitmap-none n limits.blocks)
 
   pub tells_empty : SpellsSuper limits (part 0 4096 image) → Tells (empty_metadata limits blocks) at (empty_state limits)
   tells_empty super = record {
     super = super;
     state = ap (λ es. record (empty_state limits) { axioms = fold (insert_key pair_cmp) [] es }) (no_pairs (axiom_slots limits).count (empty_metadata limits blocks).dict);
-    formed = empty_formed limits (stored_range limits range);
+    formed = empty_formed limits range;
     used = λ n is. absurd cc;
     described = λ f m. absurd (none_contained f m);
     taken = λ n lt is. absurd (both_ways (is_taken (replicate limits.blocks false) n) (none_set limits.blocks n) is);

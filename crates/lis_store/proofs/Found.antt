@@ -52,7 +52,7 @@ module _ (k : Metadata) where
       pub number_within : number < k.limits.props
       number_within = named_below k sound number (ap (λ (o : Option (List ℕ)). is_some o) there)
 
-      pub number_few : number < 8192
+      pub number_few : number < 1048576
       number_few = omega (arith, number_within, few_properties k.limits sound.range)
 
       its_number : (n : ℕ) → nat_eq number n ≡ is_one_of (word ∷ []) (word_of k.dict n)

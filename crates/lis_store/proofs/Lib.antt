@@ -17,6 +17,7 @@ pub mod Entailment
 pub mod FileTests
 pub mod Viewing
 pub mod Saved
+pub mod Fitting
 pub mod SavedAlone
 pub mod Holding
 pub mod Large

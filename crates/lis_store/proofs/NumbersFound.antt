@@ -1,5 +1,5 @@
 -- Numbers that pass a test, found one by one.
-use Rattle.lis_store.proofs.Common.{◌≡◌, refl, sym, ap, ◌∙◌, ◌⊎◌, inl, inr, ℕ, zero, suc, ◌+◌, ◌<◌, ◌≤◌, Bool, true, false, cond, List, [], ◌∷◌, ◌++◌, length, map, filter, append-nil, length-append, arith, range_with_len, cases_lt}
+use Rattle.lis_store.proofs.Common.{◌≡◌, refl, sym, ap, ◌∙◌, ◌⊎◌, inl, inr, ℕ, zero, suc, ◌+◌, ◌<◌, ◌≤◌, Bool, true, false, cond, List, [], ◌∷◌, ◌++◌, length, map, filter, append-nil, length-append, arith, range_with_len, cases_lt, false_from_ne_true}
 use Rattle.lis_ext.specs.Numbers.{numbers_where}
 use Rattle.std.proofs.lemmas.List.FromFn.{filter_of_map_range_with_len_more}
 
@@ -50,6 +50,13 @@ module _ (test : ℕ → Bool) where
   pub found_all : (props : ℕ) → found_below test props ≡ numbers_where props test
   unfolding numbers_where
   found_all props = ap (filter test) (same_map (range_with_len 0 props))
+
+  -- all are found if none is past the start
+  pub found_end : (start most props : ℕ) → start ≤ most → ((n : ℕ) → start ≤ n → n < most → test n ≡ false) → props ≤ most → ((n : ℕ) → test n ≡ true → n < props)
+      → found_below test start ≡ numbers_where props test
+  found_end start most props low none few below =
+      found_past start most low none
+      ∙ (sym (found_past props most few (λ n from lt. false_from_ne_true (test n) (λ is. omega (arith, from, below n is)))) ∙ found_all props)
 
   pub found_room : (props most n : ℕ) → n < props → test n ≡ true → length (numbers_where props test) ≤ most → length (found_below test n) < most
   found_room props most n lt passes few =

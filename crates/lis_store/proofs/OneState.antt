@@ -5,7 +5,6 @@ use Rattle.lis_fields.specs.Layouts.{is_axiom, is_file}
 use Rattle.lis_fields.proofs.OneSpelling.{super_once, prop_once, axiom_once, file_once}
 use Rattle.lis_kept.specs.Areas.{property_slots, file_slots}
 use Rattle.lis_store.specs.Stands.{Contents, AreSlots, spelled_state, Spells, Stands}
-use Rattle.lis_model.proofs.Stored.{stored_range}
 use Rattle.lis_kept.specs.Image.{image_layout}
 
 -- two lists of one length with the same value at each index
@@ -42,7 +41,7 @@ one_replay a b e = cc
 pub one_state : (image : List ℕ) (s t : State) → Stands image s → Stands image t → s ≡ t
 unfolding Stands
 one_state image s t stands_s stands_t =
-    let limits = super_once s.limits t.limits (part 0 4096 image) (stored_range s.limits stands_s.range) (stored_range t.limits stands_t.range) stands_s.super stands_t.super in
+    let limits = super_once s.limits t.limits (part 0 4096 image) stands_s.range stands_t.range stands_s.super stands_t.super in
     let replay = one_replay stands_s.replay stands_t.replay (sym stands_s.replays ∙ (ap (λ (l : Limits). replayed (image_layout l) image) limits ∙ stands_t.replays)) in
     let moved = subst (λ (r : List ℕ). Spells t.limits stands_t.contents (λ n. block n r) t) (sym replay) stands_t.spells in
     let there = subst (λ (l : Limits). Spells l stands_t.contents (λ n. block n stands_s.replay) t) (sym limits) moved in

@@ -1,9 +1,9 @@
 -- A file that is admitted: its words may get numbers, and its numbers are well formed.
 use Rattle.std.proofs.Common.{rules}
 use Rattle.std.proofs.Common.{◌^◌}
-use Rattle.lis_store.proofs.Common.{◌≡◌, ◌⊎◌, refl, sym, ap, ap₂, ◌∙◌, subst, inl, inr, ℕ, ◌≤◌, nat_lt, nat_le, ◌&&◌, ◌||◌, cond, Bool, true, false, List, [], ◌∷◌, ◌++◌, length, is_some, IsSome, arith, flat_map, list_all, IsStrictlyIncreasing, nat_cmp, nat_cmp_total, and_parts, or_cases, lt-ltb, is_rising, Among, among_filter, among_append, among_left, among_flat_map, members_le, sorted_from_rising, number_of, word_of, are_blocks, is_record, word_cmp, has_word, is_valued, is_head, is_built_in, head_bytes, with_word, with_words, State, heads, up, all_up, is_assignable, met_tests, plain_not_valued, among_heads, up_self, all_weaker, rising_from_sorted, word_order, among_with_words, with_words_new, sorted_with_words, among_from_has_word, Metadata, AreSound, is_sound_record, is_declared, declared_of, axioms_of, among_where, sorted_where, few_properties, and_from, or_left, or_right, both_ways, le-leb, flat_map-append, IsStrictlyIncreasing-from_sorted, flat_map_among, words, has_number, all_among, all_from, with_words_old, set_of_among, number_from_among}
+use Rattle.lis_store.proofs.Common.{◌≡◌, ◌⊎◌, refl, sym, ap, ap₂, ◌∙◌, subst, inl, inr, ℕ, ◌≤◌, nat_lt, nat_le, ◌&&◌, ◌||◌, cond, Bool, true, false, List, [], ◌∷◌, ◌++◌, length, is_some, IsSome, arith, flat_map, list_all, IsStrictlyIncreasing, nat_cmp, nat_cmp_total, and_parts, or_cases, lt-ltb, is_rising, Among, among_filter, among_append, among_left, among_flat_map, members_le, sorted_from_rising, number_of, word_of, are_blocks, is_record, word_cmp, has_word, is_valued, is_head, is_built_in, head_bytes, with_word, with_words, State, heads, up, all_up, is_assignable, met_tests, plain_not_valued, among_heads, up_self, all_weaker, rising_from_sorted, word_order, among_with_words, with_words_new, sorted_with_words, among_from_has_word, Metadata, AreSound, is_sound_record, is_declared, declared_of, axioms_of, among_where, sorted_where, and_from, or_left, or_right, both_ways, le-leb, flat_map-append, IsStrictlyIncreasing-from_sorted, flat_map_among, words, has_number, all_among, all_from, with_words_old, set_of_among, number_from_among}
 use Rattle.std.proofs.lemmas.List.Sums.{fold-append}
-use Rattle.lis_fields.specs.Layouts.{are_tags}
+use Rattle.lis_fields.specs.Layouts.{are_tags, number_width}
 use Rattle.lis_model.specs.Sets.{fit}
 use Rattle.lis_fields.proofs.Parts.{record_from}
 use Rattle.lis_words.specs.Words.{built_in_heads}
@@ -15,7 +15,7 @@ use Rattle.lis_store.specs.Adding.{is_one_of, numbers_named, AreNumbered, behind
 use Rattle.lis_store.specs.ReplacingIn.{MayComeIn, record_of}
 use Rattle.lis_store.proofs.Learning.{number_there, learns_more, number_learnt, room_left}
 use Rattle.lis_store.proofs.Naming.{one_of, named_one, named_few}
-use Rattle.lis_kept.proofs.InArea.{two_bytes}
+use Rattle.lis_kept.proofs.InArea.{numbers_fit}
 use Rattle.lis_store.proofs.Told.{words_grow}
 
 -- ---- words that may get numbers
@@ -136,13 +136,14 @@ module _ {p : Metadata} (sound : AreSound p) {draft : Draft} (may : MayComeIn p 
 module _ (r : Metadata) (sound : AreSound r) (words : List (List ℕ)) where
   pub named_tags : length words ≤ 16 → are_tags r.limits.version (numbers_named r.dict words) ≡ true
   named_tags few =
-      subst (λ width. nat_le (length (numbers_named r.dict words)) 16 && fit width (numbers_named r.dict words) && is_rising nat_cmp (numbers_named r.dict words) ≡ true) (sym (two_bytes r.limits sound.range))
-      (and_from (nat_le (length (numbers_named r.dict words)) 16 && fit 2 (numbers_named r.dict words)) (is_rising nat_cmp (numbers_named r.dict words))
-      (and_from (nat_le (length (numbers_named r.dict words)) 16) (fit 2 (numbers_named r.dict words))
+      let width = number_width r.limits.version in
+      and_from (nat_le (length (numbers_named r.dict words)) 16 && fit width (numbers_named r.dict words)) (is_rising nat_cmp (numbers_named r.dict words))
+      (and_from (nat_le (length (numbers_named r.dict words)) 16) (fit width (numbers_named r.dict words))
       (le-leb (length (numbers_named r.dict words)) 16 (omega (arith, named_few r.dict sound.dict words, few)))
-      (all_from (λ n. nat_lt n (2 ^ 16)) (numbers_named r.dict words) (λ n m.
-      lt-ltb n (2 ^ 16) (omega (arith, (among_where r.dict.props (λ k. is_one_of words (word_of r.dict k)) n m).0, sound.numbers, few_properties r.limits sound.range)))))
-      (rising_from_sorted nat_cmp nat_cmp_total (numbers_named r.dict words) (sorted_where r.dict.props (λ n. is_one_of words (word_of r.dict n)))))
+      (all_from (λ n. nat_lt n (256 ^ width)) (numbers_named r.dict words) (λ n m.
+      lt-ltb n (256 ^ width)
+      (numbers_fit r.limits n sound.range (inl (omega (arith, (among_where r.dict.props (λ k. is_one_of words (word_of r.dict k)) n m).0, sound.numbers)))))))
+      (rising_from_sorted nat_cmp nat_cmp_total (numbers_named r.dict words) (sorted_where r.dict.props (λ n. is_one_of words (word_of r.dict n))))
 
   pub named_rising : IsStrictlyIncreasing (numbers_named r.dict words)
   named_rising = IsStrictlyIncreasing-from_sorted (numbers_named r.dict words) (sorted_where r.dict.props (λ n. is_one_of words (word_of r.dict n)))

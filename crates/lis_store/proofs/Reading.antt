@@ -19,7 +19,7 @@ use Rattle.lis_store.proofs.StoreSays.{file_in_slot, told_below}
 use Rattle.lis_store.proofs.ToldBy.{told_fits}
 use Rattle.lis_store.proofs.Spelled.{sound_parts}
 use Rattle.lis_kept.proofs.Image.{same_blocks, same_homes}
-use Rattle.lis_model.proofs.Stored.{stored_limit_le}
+use Rattle.lis_model.proofs.Ranges.{limit_le}
 
 -- ---- pieces of one length
 module _ {X : Type 0} (w : ℕ) (at : X → List ℕ) where
@@ -70,8 +70,8 @@ module _ {k : Stored} {slot n : ℕ} {rec : FileRecord} {ns : List ℕ} {size : 
   there : Among k.metadata.catalog.entries filed
   there = filed_at_slot k.metadata.catalog has.sound.metadata.catalog slot rec has.is_rec
 
-  pub block_few : size ≤ 1048576
-  block_few = omega (arith, has.sized, stored_limit_le k.metadata.limits has.sound.metadata.range, (sound_parts k.metadata has.sound.metadata filed there).short)
+  pub block_few : size ≤ 67108864
+  block_few = omega (arith, has.sized, limit_le k.metadata.limits, (sound_parts k.metadata has.sound.metadata filed there).short)
 
   pub block_counted : length ns ≡ slot_count size
   block_counted = ap length has.numbers ∙ (numbers_counted k.metadata has.sound.metadata filed there ∙ ap slot_count (sym has.sized))

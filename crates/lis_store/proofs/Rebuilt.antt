@@ -1,7 +1,7 @@
 -- Descriptions that are replaced, slot by slot, and those that are rebuilt: what holds of memory then, and how much is edited and marked.
 use Rattle.std.proofs.Common.{rules}
 use Rattle.lis_store.proofs.Common.{◌≡◌, ◌⊎◌, inl, inr, refl, subst, ℕ, zero, suc, ◌+◌, ◌≤◌, Bool, true, false, cond, List, [], ◌∷◌, ◌++◌, length, count_by, arith, length-append, sym, ap, ap₂, ◌∙◌, ◌<◌, map, get_or-set_same, get_or-set_other, length-set, if◌then◌else◌, filter, take, not, Option, Some, is_some, IsSome, both_ways, false_from_ne_true, sum_by-cons, Among, among_left, among_right, is_taken, Metadata, is_marked, marked_count, cases_lt, numbers_at, differs, IsSaved, block_of, Describes, among_where, map_all, length-map, length-take-le, list_all, among_append, among_filter, word_of, rec_at, slot_is_below, Ext, has, FileRecord, is_test, is_had, had_at, AreSound, FreeSlotsAreEmpty, among_map, map_among, numbers_where, Rows, has_number, all_among, all_from, is_linked, common_steps}
-use Rattle.lis_kept.proofs.Marking.{marked_within, marked_only}
+use Rattle.lis_kept.proofs.Marking.{marked_only}
 use Rattle.std.proofs.lemmas.List.FromFn.{sum_by-map-range_with_len_more}
 use Rattle.lis_store.specs.Redescribing.{SlotHas, turned_at, IsTurned, Redescribes}
 use Rattle.std.proofs.lemmas.List.Filters.{length-filter_both}
@@ -12,34 +12,7 @@ use Rattle.lis_store.specs.Stored.{AreClosed, DescriptionsAreShort, TestsAreMet}
 use Rattle.lis_store.specs.Changes.{AreEditsFew}
 use Rattle.lis_store.proofs.Closed.{closure_closed}
 use Rattle.lis_store.proofs.FileTests.{tests_stay}
-
--- ---- how many blocks are marked
-abbrev taken_from : List Bool → ℕ → List ℕ
-taken_from [] i = []
-taken_from (true ∷ bits) i = i ∷ taken_from bits (suc i)
-taken_from (false ∷ bits) i = taken_from bits (suc i)
-
-taken_count : (bits : List Bool) (i : ℕ) → length (taken_from bits i) ≡ count_by (λ (b : Bool). b) bits
-taken_count [] i = omega arith
-taken_count (true ∷ bits) i = omega (arith, taken_count bits (suc i), sum_by-cons (λ (b : Bool). cond b 1 0) true bits)
-taken_count (false ∷ bits) i = omega (arith, taken_count bits (suc i), sum_by-cons (λ (b : Bool). cond b 1 0) false bits)
-
-taken_among : (bits : List Bool) (i n : ℕ) → is_taken bits n ≡ true → Among (taken_from bits i) (i + n)
-taken_among [] i n is = absurd (both_ways false refl is)
-taken_among (true ∷ bits) i zero is = inl (omega arith)
-taken_among (false ∷ bits) i zero is = absurd (both_ways false refl is)
-taken_among (true ∷ bits) i (suc n) is = let next : suc i + n ≡ i + suc n = omega arith in inr (subst (λ m. Among (taken_from bits (suc i)) m) next (taken_among bits (suc i) n is))
-taken_among (false ∷ bits) i (suc n) is = let next : suc i + n ≡ i + suc n = omega arith in subst (λ m. Among (taken_from bits (suc i)) m) next (taken_among bits (suc i) n is)
-
--- marks that were there, or are of these blocks
-pub marked_more : (p q : Metadata) (blocks : List ℕ) → ((block : ℕ) → is_marked q block ≡ true → (is_marked p block ≡ true) ⊎ Among blocks block) → marked_count q ≤ marked_count p + length blocks
-marked_more p q blocks within =
-    let few = marked_within q.marks (taken_from p.marks 0 ++ blocks) (λ block is. by block (within block is)) in
-    omega (arith, few, length-append (taken_from p.marks 0) blocks, taken_count p.marks 0)
-  where
-    by : (block : ℕ) → (is_marked p block ≡ true) ⊎ Among blocks block → Among (taken_from p.marks 0 ++ blocks) block
-    by block (inl was) = let same : 0 + block ≡ block = omega arith in among_left (taken_from p.marks 0) blocks block (subst (λ m. Among (taken_from p.marks 0) m) same (taken_among p.marks 0 block was))
-    by block (inr new) = among_right (taken_from p.marks 0) blocks block new
+use Rattle.lis_store.proofs.Fitting.{most_all, marked_more, all_few}
 
 -- ---- one slot more
 -- at the start nothing is done
@@ -215,30 +188,24 @@ module _ {concerned : ℕ → Bool} {base : ℕ → List ℕ} {k m : Metadata} (
   tests_made same = tests_stay k made (λ at rec there. there) (λ n w is test. is) (λ n at rec w there is test. had_made n at (same n at w is test))
 
   -- ---- what is marked
-  -- if the rows that change are those of a few numbers
+  -- if few numbers are gained or lost
   pub few_made : ((slot : ℕ) × (concerned slot ≡ true)) ⊎ ((slot : ℕ) → concerned slot ≡ false) → (rows : List ℕ) → ((slot : ℕ) → concerned slot ≡ true → length rows ≤ 128)
-      → ((slot n : ℕ) → concerned slot ≡ true → differs (numbers_at k.ext slot) (closure k (base slot)) n ≡ true → Among rows n) → marked_count m ≤ marked_count k + 128
+      → ((slot n : ℕ) → concerned slot ≡ true → differs (numbers_at k.ext slot) (closure k (base slot)) n ≡ true → Among rows n) → marked_count m ≤ marked_count k + most_all k.limits
   few_made some rows few within = by some
     where
-      turned_row : (slot n : ℕ) → (b : Bool) → concerned slot ≡ b → differs (numbers_at k.ext slot) (if b then closure k (base slot) else numbers_at k.ext slot) n ≡ true → (concerned slot ≡ true) × Among rows n
-      turned_row slot n true here turned = (here, within slot n here turned)
-      turned_row slot n false other turned = absurd (both_ways (differs (numbers_at k.ext slot) (numbers_at k.ext slot) n) (unturned (numbers_at k.ext slot) (numbers_at k.ext slot) n refl) turned)
+      turned_in : (slot n : ℕ) → (b : Bool) → concerned slot ≡ b → differs (numbers_at k.ext slot) (if b then closure k (base slot) else numbers_at k.ext slot) n ≡ true
+          → (concerned slot ≡ true) × (slot < k.limits.files) × Among rows n
+      turned_in slot n true here turned = (here, omega (arith, slot_is_below k.catalog slot r.sound.catalog (r.filed slot here), r.sound.slots), within slot n here turned)
+      turned_in slot n false other turned = absurd (both_ways (differs (numbers_at k.ext slot) (numbers_at k.ext slot) n) (unturned (numbers_at k.ext slot) (numbers_at k.ext slot) n refl) turned)
 
-      by : ((slot : ℕ) × (concerned slot ≡ true)) ⊎ ((slot : ℕ) → concerned slot ≡ false) → marked_count m ≤ marked_count k + 128
+      by : ((slot : ℕ) × (concerned slot ≡ true)) ⊎ ((slot : ℕ) → concerned slot ≡ false) → marked_count m ≤ marked_count k + most_all k.limits
       by (inl one) =
-          let blocks = map (block_of k.limits Rows) rows in
-          let more = marked_more k m blocks (λ block is. side block (r.redescribes.within block is)) in
-          omega (arith, more, length-map rows (block_of k.limits Rows), few one.0 one.1)
-        where
-          side : (block : ℕ) → (is_marked k block ≡ true) ⊎ IsTurned k (anew k concerned base) block → (is_marked k block ≡ true) ⊎ Among (map (block_of k.limits Rows) rows) block
-          side block (inl was) = inl was
-          side block (inr row) =
-              inr (subst (λ b. Among (map (block_of k.limits Rows) rows) b) (sym row.is)
-              (map_among (block_of k.limits Rows) rows row.number (turned_row row.slot row.number (concerned row.slot) refl row.turned).1))
+          all_few k m (anew k concerned base) rows r.sound.range (few one.0 one.1)
+          (λ slot n turned. let found = turned_in slot n (concerned slot) refl turned in (found.1, found.2)) r.redescribes.within
       by (inr none) =
           let more = marked_more k m [] (λ block is. side block (r.redescribes.within block is)) in
           omega (arith, more)
         where
           side : (block : ℕ) → (is_marked k block ≡ true) ⊎ IsTurned k (anew k concerned base) block → (is_marked k block ≡ true) ⊎ Among [] block
           side block (inl was) = inl was
-          side block (inr row) = absurd (both_ways (concerned row.slot) (none row.slot) (turned_row row.slot row.number (concerned row.slot) refl row.turned).0)
+          side block (inr of) = absurd (both_ways (concerned of.slot) (none of.slot) (turned_in of.slot of.number (concerned of.slot) refl of.turned).0)

@@ -9,6 +9,7 @@ use Rattle.lis_store.specs.ReplacingIn.{AreInForm, MayPut, MayComeIn, MakesRoom,
 use Rattle.lis_store.specs.Contents.{blocks_gone}
 use Rattle.lis_store.specs.Changes.{AreEditsFew}
 use Rattle.lis_store.proofs.Differing.{none_rising}
+use Rattle.lis_store.proofs.Fitting.{most_own}
 use Rattle.lis_store.proofs.Housed.{IsHoused, housed_given}
 use Rattle.lis_store.proofs.Unfiled.{left_is, coming, tells_without}
 use Rattle.lis_store.proofs.PutIn.{may_come, none_has}
@@ -107,12 +108,12 @@ module _ {gone : Option FileRecord} {draft : Draft} {blocks : List ℕ} {p q : M
   pub edits_refiled : AreEditsFew p.ext q.ext
   edits_refiled = subst (λ (e : Ext). AreEditsFew e q.ext) stay.ext (edits_settled r.vacant r.may r.settles)
 
--- at most 513 more blocks are marked
-pub few_refiled : (gone : Option FileRecord) {draft : Draft} {blocks : List ℕ} {p q : Metadata} → AreInForm p → RefilesIn gone draft blocks p q → marked_count q ≤ marked_count p + 513
-few_refiled None form r = omega (arith, few_settled r.vacant r.may r.settles, ap (λ (k : Metadata). marked_count k) r.makes)
+-- how many more blocks are marked: 128 words are removed and as many learnt, and the file's slot is described once
+pub few_refiled : (gone : Option FileRecord) {draft : Draft} {blocks : List ℕ} {p q : Metadata} → AreInForm p → RefilesIn gone draft blocks p q → marked_count q ≤ marked_count p + 257 + most_own p.limits 256
+few_refiled None form r = omega (arith, few_settled r.vacant r.may r.settles, ap (λ (k : Metadata). marked_count k) r.makes, ap (λ (k : Metadata). most_own k.limits 256) r.makes)
 few_refiled (Some rec) {draft} {blocks} {p} form r =
     let home = ap (λ (l : Limits). is_marked r.vacated (block_of l Files r.slot)) (stays (Some rec) r.slot p r.vacated r.makes).limits ∙ r.makes.slot_marked in
-    omega (arith, few_again r.vacant r.may r.settles home, r.makes.marks.few, form.short r.slot)
+    omega (arith, few_again r.vacant r.may r.settles home, r.makes.marks.few, form.short r.slot, ap (λ (k : Metadata). most_own k.limits 256) r.makes.metadata)
 
 -- ---- the state that it represents
 -- memory represents the same, whatever is marked

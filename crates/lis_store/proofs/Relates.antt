@@ -33,6 +33,7 @@ use Rattle.lis_store.specs.RelatingIn.{RelatesIn}
 use Rattle.lis_store.proofs.Declared.{slot_pair}
 use Rattle.lis_store.proofs.StoreSays.{known_told}
 use Rattle.lis_store.proofs.Cleaned.{none_marked}
+use Rattle.lis_store.proofs.Fitting.{most_all, all_fits}
 use Rattle.lis_store.proofs.FileTests.{test_flagged, flagged_before, tests_stay}
 use Rattle.lis_store.specs.declared.change_fault.ChangeFault.{ChangeFault}
 use Rattle.lis_store.specs.Changes.{Holds, AreEditsFew}
@@ -494,7 +495,7 @@ module _ {old : Stored} {q : Metadata} {left right : List ℕ} (was : IsSound ol
     tests = subst (λ (k : Metadata). TestsAreMet k) made_end (tests_linked link relates.rebuilds tests_learnt);
   }
 
-  few_marked : marked_count p ≡ 0 → marked_count q ≤ 131
+  few_marked : marked_count p ≡ 0 → marked_count q ≤ 3 + most_all p.limits
   few_marked none =
       let ups = numbers_where learnt.limits.props (is_entailed learnt to) in
       let few = few_made (is_rebuilt link relates.rebuilds) (some_had linked.ext from) ups
@@ -506,7 +507,7 @@ module _ {old : Stored} {q : Metadata} {left right : List ℕ} (was : IsSound ol
       (λ slot n here turned.
       let up_so = turned_linked link relates.rebuilds slot n turned in
       where_among learnt.limits.props (is_entailed learnt to) n (named_below learnt relates.sound n (ap is_some (led learnt to n up_so).is_to)) up_so) in
-      omega (arith, none, relates.learns.marks.few, behind_few left, relates.links.marks.few, few)
+      omega (arith, none, relates.learns.marks.few, behind_few left, relates.links.marks.few, few, ap (λ (k : Metadata). most_all k.limits) relates.links.metadata, ap (λ (k : Metadata). most_all k.limits) relates.learns.metadata)
 
   pub axiom_change : old.is_broken ≡ false → IsChange old q
   axiom_change unbroken = record {
@@ -514,7 +515,7 @@ module _ {old : Stored} {q : Metadata} {left right : List ℕ} (was : IsSound ol
         subst (λ (k : Metadata). IsSound (settled k old.journal)) (sym end_is)
         (settled_sound end old.journal (form_end (subst (λ (k : Metadata). AreSound k) end_is after)) pairs_then was.image (was.journal unbroken));
     limits = ap (λ (k : Metadata). k.limits) end_is;
-    room = omega (arith, few_marked (none_marked p (was.clean unbroken)), was.few unbroken);
+    room = omega (arith, few_marked (none_marked p (was.clean unbroken)), all_fits p.limits was.metadata.range, was.few unbroken);
     edits = subst (λ (e : Ext). AreEditsFew e q.ext) ext_before (made_edits (is_rebuilt link relates.rebuilds));
   }
 

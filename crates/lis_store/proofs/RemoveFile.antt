@@ -2,7 +2,6 @@
 use Rattle.std.proofs.Common.{rules}
 use Rattle.lis_store.proofs.Common.{◌≡◌, sym, ap, ◌∙◌, subst, ℕ, is_some, not, IsSome, Bool, true, false, cond, List, Some, Result, Err, arith, Meaning, Held, looked, Asks, slot_of, rec_at, rec_at-slot_of, Ext, Formula, FileRecord, NoFileHere, State, Situation, Outcome, refused, rm, file_removed, Metadata, IsSaved, changed, GivesBack}
 use Rattle.lis_content.specs.Content.{marked, given as given_back}
-use Rattle.lis_model.proofs.Stored.{stored_bitmap}
 use Rattle.lis_kept.specs.Changes.{bitmap_homes}
 use Rattle.lis_store.specs.declared.change_fault.ChangeFault.{ChangeFault}
 use Rattle.lis_store.specs.declared.change_fault.ChangeFault.TheVariants.{Refused, Disk}
@@ -16,6 +15,7 @@ use Rattle.lis_store.specs.ReplacingIn.{AreInForm}
 use Rattle.lis_store.proofs.StoreSays.{here_told}
 use Rattle.lis_store.proofs.Judged.{change_refused}
 use Rattle.lis_store.proofs.Cleaned.{none_marked}
+use Rattle.lis_store.proofs.Fitting.{most_own, own_fits}
 use Rattle.lis_store.proofs.Keeping.{keeps_lost}
 use Rattle.lis_store.proofs.Removed.{end_is, form_removed, few_marked, few_edits, ready_removed}
 use Rattle.lis_store.proofs.Retaken.{in_form, settled_sound}
@@ -106,7 +106,16 @@ module _ {old now : Stored} (view : old ≡ now) (sound : IsSound old) (unbroken
       settles = λ after.
           settled_sound q old.journal (form_removed slot rec mid q form_given out) (pairs_same old.metadata q same_axioms sound.pairs) (sound.image ∙ ap image_shape (sym same_limits)) (sound.journal unbroken);
       limits = same_limits;
-      room = omega (arith, few_marked slot rec mid q form_given out, gives.takes.marks.few, stored_bitmap old.metadata.limits sound.metadata.range, none_marked old.metadata (sound.clean unbroken), sound.few unbroken);
+      room =
+          omega (
+            arith,
+            few_marked slot rec mid q form_given out,
+            gives.takes.marks.few,
+            ap (λ (k : Metadata). most_own k.limits 128) gives.takes.metadata,
+            own_fits old.metadata.limits 128 sound.metadata.range (omega arith),
+            none_marked old.metadata (sound.clean unbroken),
+            sound.few unbroken,
+          );
       edits = subst (λ (e : Ext). AreEditsFew e q.ext) (ap (λ (k : Metadata). k.ext) gives.takes.metadata) (few_edits slot rec mid q form_given out);
     }
 

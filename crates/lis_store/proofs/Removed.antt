@@ -6,6 +6,7 @@ use Rattle.lis_store.specs.Removing.{TakesOut}
 use Rattle.lis_store.specs.Changes.{AreEditsFew}
 use Rattle.lis_store.proofs.Differing.{differ_few, none_rising}
 use Rattle.lis_store.proofs.Edits.{edits_at}
+use Rattle.lis_store.proofs.Fitting.{most_own, own_few}
 use Rattle.lis_store.proofs.Unfiled.{gone, set_gone, form_gone, tells_without}
 use Rattle.lis_store.proofs.Vacated.{slot_below}
 
@@ -37,11 +38,12 @@ module _ (slot : ℕ) (rec : FileRecord) (p q : Metadata) (form : AreInForm p) (
   was : numbers ≡ numbers_at v.ext slot
   was = ap (λ (e : Ext). numbers_at e slot) (sym ext_is)
 
-  pub few_marked : marked_count q ≤ marked_count p + 300
+  pub few_marked : marked_count q ≤ marked_count p + 129 + most_own p.limits 128
   few_marked =
       let one = out.vacates.marks.few in
-      let two = subst (λ (e : Ext). marked_count q ≤ marked_count v + length (numbers_where e.props (differs numbers []))) ext_is (out.empties.marks numbers was).few in
-      omega (arith, one, two, differ_few p.ext.props numbers [] out.vacates.rising none_rising, form.short slot)
+      let turned : length (numbers_where v.ext.props (differs numbers [])) ≤ 128 = omega (arith, differ_few v.ext.props numbers [] out.vacates.rising none_rising, form.short slot) in
+      let two = own_few slot [] v q numbers 128 out.empties was turned in
+      omega (arith, one, two, form.short slot, ap (λ (k : Metadata). most_own k.limits 128) out.vacates.metadata)
 
   pub few_edits : AreEditsFew p.ext q.ext
   few_edits =

@@ -15,6 +15,7 @@ use Rattle.lis_store.specs.Replacing.{MayReplace}
 use Rattle.lis_store.specs.ReplacingIn.{AreInForm, MayPut, RefilesIn, record_in, file_gone}
 use Rattle.lis_store.proofs.Cleaned.{none_marked}
 use Rattle.lis_store.proofs.Elsewhere.{saved_there, no_home_before}
+use Rattle.lis_store.proofs.Fitting.{most_own, own_fits, all_fits}
 use Rattle.lis_store.proofs.StoreSays.{size_of_filed, file_of_filed}
 use Rattle.lis_store.proofs.FreeBlocks.{used_told, version_told}
 use Rattle.lis_store.proofs.Housed.{IsHoused, free_number, stay_housed, trades_housed, alone_housed}
@@ -27,9 +28,9 @@ use Rattle.lis_store.proofs.ToldBy.{ToldBy, told_held}
 use Rattle.lis_store.proofs.WriteFile.{found_there, written_enough}
 use Rattle.lis_journal.specs.Journal.{shape_of}
 use Rattle.lis_kept.specs.Image.{image_shape}
-use Rattle.lis_model.proofs.Stored.{stored_limit_le, stored_bitmap}
+use Rattle.lis_model.proofs.Ranges.{limit_le}
 use Rattle.lis_kept.specs.Areas.{bitmap_home}
-use Rattle.lis_kept.proofs.Image.{same_layout, same_blocks, same_staged, stored_staged}
+use Rattle.lis_kept.proofs.Image.{same_layout, same_blocks, same_staged}
 
 may_retaken : (p : Metadata) (taken marks : List Bool) (slot : ℕ) (rec : FileRecord) (draft : Draft) → MayReplace p slot rec draft → MayReplace (retaken p taken marks) slot rec draft
 may_retaken p taken marks slot rec draft may = search (rules)
@@ -63,7 +64,7 @@ module _ (old : Stored) (taken marks : List Bool) (q : Metadata) (j : Held) (gon
   replaced_sound image unbroken after =
       settled_sound q j (form_refiled again) (pairs_same o q (axioms_refiled again) sound.pairs) (sym image ∙ (sound.image ∙ ap image_shape (sym limits_then))) unbroken
 
-  pub replaced_marks : marked_count q ≤ marked_count p + 513
+  pub replaced_marks : marked_count q ≤ marked_count p + 257 + most_own o.limits 256
   replaced_marks = few_refiled gone form again
 
   pub replaced_bitmap : (n : ℕ) → is_marked p (bitmap_home o.limits n) ≡ true → is_marked q (bitmap_home q.limits n) ≡ true
@@ -115,7 +116,7 @@ anew_small {old} same slot draft may = put_small old.metadata slot draft (subst 
 
 -- one more content can be staged
 pub anew_room : {old : Stored} → IsSound old → old.is_broken ≡ false → length old.journal.staged + 16 ≤ old.journal.capacity.staged
-anew_room {old} sound unbroken = omega (arith, sound.few unbroken, same_staged sound.image, stored_staged old.metadata.limits sound.metadata.range)
+anew_room {old} sound unbroken = omega (arith, sound.few unbroken, same_staged sound.image, all_fits old.metadata.limits sound.metadata.range)
 
 -- What a call requires is about the store's value `now`, and what is proved is about its metadata, `old`.
 module _ {old now : Stored} (same : old ≡ now) {mid : Metadata} {j : Held} (slot : Option ℕ) (name : List ℕ) (assigned : List (List ℕ)) (bytes numbers : List ℕ) (sound : IsSound old) (sound_mid : AreSound mid)
@@ -154,8 +155,8 @@ module _ {old now : Stored} (same : old ≡ now) {mid : Metadata} {j : Held} (sl
   pub mid_first : MayPut mid slot (draft_of file)
   mid_first = subst (λ (x : Metadata). MayPut x slot (draft_of file)) (sym renews.metadata) (put_retaken k mid.taken mid.marks slot (draft_of file) first)
 
-  pub mid_short : length bytes ≤ 1048576
-  mid_short = omega (arith, stored_limit_le k.limits sound.metadata.range, put_small k slot (draft_of file) first)
+  pub mid_short : length bytes ≤ 67108864
+  mid_short = omega (arith, limit_le k.limits, put_small k slot (draft_of file) first)
 
   pub mid_image : shape_of j ≡ shape_of now.journal
   mid_image = renews.image ∙ ap (λ (o : Stored). shape_of o.journal) same
@@ -199,7 +200,7 @@ module _ {old now : Stored} (same : old ≡ now) {mid : Metadata} {j : Held} (sl
             );
         room =
             let some = replaced_marks old mid.taken mid.marks q j goes (draft_of file) numbers sound sound_renewed again in
-            omega (arith, some, sound.few unbroken, renews.few_staged, renews.marks.few, stored_bitmap k.limits sound.metadata.range, stored_staged k.limits sound.metadata.range, none_marked k (sound.clean unbroken), ap (λ (x : Metadata). marked_count x) renews.metadata, same_staged (renews.image ∙ sound.image));
+            omega (arith, some, sound.few unbroken, renews.few_staged, renews.marks.few, own_fits k.limits 256 sound.metadata.range (omega arith), none_marked k (sound.clean unbroken), ap (λ (x : Metadata). marked_count x) renews.metadata, same_staged (renews.image ∙ sound.image));
       }
 
     -- from a state that memory represented
@@ -315,7 +316,7 @@ module _ {old now : Stored} (same : old ≡ now) (sound : IsSound old) (unbroken
     limits = limits_then old old_metadata.taken old_metadata.marks q old.journal gone draft numbers sound sound.metadata refiled;
     room =
         let some = replaced_marks old old_metadata.taken old_metadata.marks q old.journal gone draft numbers sound sound.metadata refiled in
-        omega (arith, some, none_marked old_metadata (sound.clean was_unbroken), sound.few was_unbroken);
+        omega (arith, some, own_fits old_metadata.limits 256 sound.metadata.range (omega arith), none_marked old_metadata (sound.clean was_unbroken), sound.few was_unbroken);
     edits = replaced_edits old old_metadata.taken old_metadata.marks q old.journal gone draft numbers sound sound.metadata refiled;
   }
 

@@ -8,14 +8,14 @@ use Rattle.lis_store.specs.Changes.{Holds, AreEditsFew}
 use Rattle.lis_store.specs.Saving.{settled, IsReady, MayBeSaved, Saves}
 use Rattle.lis_store.proofs.Saved.{none_are_placed}
 use Rattle.lis_store.proofs.Standing.{stands_none_but}
-use Rattle.lis_kept.specs.Image.{image_shape}
-use Rattle.lis_kept.proofs.Image.{same_staged, stored_staged}
+use Rattle.lis_kept.specs.Image.{image_shape, most_staged}
+use Rattle.lis_kept.proofs.Image.{same_staged}
 
 -- What a change does to the memory of a store, if the journal stays.
 pub record IsChange (old : Stored) (q : Metadata) : Type 0 where
   pub settles : AreSound q → IsSound (settled q old.journal)
   pub limits : q.limits ≡ old.metadata.limits
-  pub room : length old.journal.staged + marked_count q ≤ 575
+  pub room : length old.journal.staged + marked_count q ≤ most_staged old.metadata.limits
   pub edits : AreEditsFew old.metadata.ext q.ext
 
 -- The journal is that of the store.
@@ -26,7 +26,7 @@ change_saves {old} {made} sound unbroken change same =
       image = sound.image ∙ ap image_shape (sym change.limits);
       unbroken = sound.journal unbroken;
       placed = none_are_placed made.metadata old.journal (sound.placed unbroken);
-      room = omega (arith, change.room, same_staged sound.image, stored_staged old.metadata.limits sound.metadata.range);
+      room = omega (arith, change.room, same_staged sound.image);
     })
 
 module _ (old : Stored) (sound : IsSound old) (unbroken : old.is_broken ≡ false) where

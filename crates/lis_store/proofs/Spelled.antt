@@ -1,7 +1,7 @@
 -- What memory represents is what the slots and blocks that it spells represent.
 use Rattle.std.proofs.Common.{rules}
 use Rattle.std.proofs.Common.{option_map}
-use Rattle.lis_store.proofs.Common.{◌≡◌, ◌⊎◌, refl, sym, ap, ap₂, ◌∙◌, subst, inl, inr, ℕ, suc, ◌+◌, ◌/◌, ◌<◌, ◌≤◌, ◌==◌, ◌&&◌, nat_lt, Bool, true, false, is_some, Option, Some, None, option_to_list, List, [], ◌∷◌, ◌++◌, length, get_or, map, drop, replicate, slice_get, IsTrue, arith, append-nil, insert_key, find, flat_map, list_all, range_with_len, and_parts, ltb-true, lt-ltb, cases_lt, get_or_past, length-map, slice_get_within, get_or_from_slice_get, Among, among_from_contains, contains_from_among, among_filter, among_flat_map, range_among, sorted_from_rising, is_taken, number_of, word_of, number_from_word, number_below, Filed, rec_at, has, numbers_at, FileRecord, is_prop, is_record, AxiomSlot, FreeAxiom, Pair, has_word, State, File, pair_cmp, file_cmp, description, file_limit, all_weaker, sorted_known, word_order, pair_exact, among_set_of, sorted_set_of, Metadata, property_by, IsWritten, axiom_slots, Properties, Axioms, Bitmap, AreSound, FreeSlotsAreEmpty, bit_of, is_declared, declared_of, bytes_told, blocks_told, HasIndex, state_of, Tells, some_word, filed_rec, filed_at_slot, number_told, declared_word, declared_has_number, words_known, flat_all, and_from, false_from_ne_true, among_map, map_among, flat_map_among, marked, has_number, are_distinct, words, prop_bytes, axiom_bytes, file_bytes, set_of, known, all_among, all_from, set_of_among, same_words, same_tests, Files, Rows, words_told, file_told, among_from_number, one_number}
+use Rattle.lis_store.proofs.Common.{◌≡◌, ◌⊎◌, refl, sym, ap, ap₂, ◌∙◌, subst, inl, inr, ℕ, suc, ◌+◌, ◌/◌, ◌<◌, ◌≤◌, ◌==◌, ◌&&◌, nat_lt, Bool, true, false, is_some, Option, Some, None, option_to_list, List, [], ◌∷◌, ◌++◌, length, get_or, map, drop, replicate, slice_get, IsTrue, arith, append-nil, insert_key, find, flat_map, list_all, range_with_len, and_parts, ltb-true, lt-ltb, cases_lt, get_or_past, length-map, slice_get_within, get_or_from_slice_get, Among, among_from_contains, contains_from_among, among_filter, among_flat_map, range_among, sorted_from_rising, is_taken, number_of, word_of, number_from_word, number_below, Filed, rec_at, has, numbers_at, FileRecord, is_prop, is_record, AxiomSlot, FreeAxiom, Pair, has_word, State, File, pair_cmp, file_cmp, description, file_limit, all_weaker, sorted_known, word_order, pair_exact, among_set_of, sorted_set_of, Metadata, property_by, IsWritten, axiom_slots, Properties, Axioms, Bitmap, AreSound, FreeSlotsAreEmpty, bit_of, is_declared, declared_of, bytes_told, blocks_told, HasIndex, state_of, Tells, some_word, filed_rec, filed_at_slot, number_told, declared_word, declared_has_number, words_known, flat_all, and_from, false_from_ne_true, among_map, map_among, flat_map_among, marked, has_number, are_distinct, words, prop_bytes, axiom_bytes, file_bytes, set_of, known, all_among, all_from, set_of_among, same_words, same_tests, Files, Rows, Sets, words_told, file_told, among_from_number, one_number, numbers_same}
 use Rattle.std.specs.List.{fold}
 use Rattle.std.specs.List.Sorted.{IsPermutation}
 use Rattle.std.proofs.lemmas.List.{get_or-drop, length-drop}
@@ -15,7 +15,8 @@ use Rattle.lis_slots.specs.Slots.{slot}
 use Rattle.lis_bits.specs.Bytes.{bits_bytes}
 use Rattle.lis_bits.proofs.Numbers.{bytes_same}
 use Rattle.lis_dict.proofs.Laws.{number_from_among}
-use Rattle.lis_fields.specs.Layouts.{number_width, is_axiom, is_file, slot_blocks}
+use Rattle.lis_ext.specs.Numbers.{numbers_where}
+use Rattle.lis_fields.specs.Layouts.{number_width, is_axiom, is_file, slot_blocks, set_bytes}
 use Rattle.lis_model.specs.Sets.{fit}
 use Rattle.lis_fields.proofs.Parts.{record_tests, few_blocks}
 use Rattle.lis_fields.specs.declared.slots.PropSlot.{PropSlot}
@@ -24,13 +25,14 @@ use Rattle.lis_fields.specs.declared.slots.FileSlot.{FileSlot}
 use Rattle.lis_fields.specs.declared.slots.FileSlot.TheVariants.{Free as FreeFile}
 use Rattle.lis_laws.proofs.Forms.{file_order}
 use Rattle.lis_kept.specs.Metadata.{property_at, axiom_at, file_by, record_at}
-use Rattle.lis_kept.specs.Areas.{property_slots, file_slots, row_slots}
+use Rattle.lis_kept.specs.Areas.{property_slots, file_slots, row_slots, set_slots}
+use Rattle.lis_kept.proofs.InArea.{third_sets, some_are_third}
 use Rattle.lis_kept.specs.Telling.{pair_by, pair_told, pairs_told}
-use Rattle.lis_kept.proofs.Formed.{axioms_formed, records_formed}
+use Rattle.lis_kept.proofs.Formed.{axioms_formed, records_formed, named_all, named_below}
+use Rattle.lis_ext.proofs.Numbers.{has_decides, numbers_of}
 use Rattle.lis_kept.proofs.Filing.{number_from_among as has_from_among}
 use Rattle.lis_kept.proofs.Known.{placed_at, only_pair, declared_set}
-use Rattle.lis_store.specs.Stands.{Contents, AreSlots, word_in, declared_in, words_in, all_declared, word_at, pair_in, pairs_in, is_named_axiom, is_free_axiom, records_in, all_records, all_blocks, file_by as file_of_record, spelled_state, is_had_by, row_bit, Spells}
-use Rattle.lis_model.proofs.Stored.{stored_parts}
+use Rattle.lis_store.specs.Stands.{Contents, AreSlots, word_in, declared_in, words_in, all_declared, word_at, pair_in, pairs_in, is_named_axiom, is_free_axiom, records_in, all_records, all_blocks, file_by as file_of_record, spelled_state, is_had_by, row_bit, set_by, Spells}
 use Rattle.lis_store.specs.Stored.{PairsAreApart}
 use Rattle.lis_store.proofs.SlotOrder.{given_at, flat_map-flat_map, permuted_among, distinct_permuted, held, held_at, slot_order}
 use Rattle.lis_store.proofs.Points.{set_of_points, AllApart, length-with_more}
@@ -390,12 +392,24 @@ module _ (k : Metadata) (at : ℕ → List ℕ) (sound : AreSound k) (free : Fre
       ∙ (ap (λ n. bits_bytes (n / 8) (has k.ext p)) sound.files
       ∙ bytes_same (k.limits.files / 8) (has k.ext p) (row_bit s k.limits (contents_of k) at p) (λ i small. bit_is p i (omega (arith, small))))
 
-  -- no image of version 3 is stored
-  not_third : k.limits.version ≡ 3 → ⊥
-  not_third third = elim (stored_parts k.limits sound.range).version [
-    | inl one ↦ absurd (omega (arith, one, third))
-    | inr two ↦ absurd (omega (arith, two, third))
-  ]
+  -- ---- sets
+  -- the numbers that a slot has
+  set_is : (i : ℕ) → i < k.limits.files → numbers_where k.ext.props (has_number (numbers_at k.ext i)) ≡ set_by s k.limits (contents_of k) at i
+  unfolding numbers_where
+  set_is i lt =
+      ap (λ n. numbers_where n (has_number (numbers_at k.ext i))) sound.rows
+      ∙ numbers_same k.limits.props (λ p. has k.ext p i) (λ p. row_bit s k.limits (contents_of k) at p i) (λ p below. bit_is p i lt)
+
+  in_order : (i : ℕ) → i < k.limits.files → numbers_at k.ext i ≡ numbers_where k.ext.props (has_number (numbers_at k.ext i))
+  in_order i lt = sym (numbers_of k.ext.props (numbers_at k.ext i) (sound.rising i (omega (arith, lt, sound.files))) below)
+    where
+      below : (n : ℕ) → Among (numbers_at k.ext i) n → n < k.ext.props
+      below n m = omega (arith, named_below k sound n (named_all k sound free n i ((has_decides (numbers_at k.ext i) n).1 m)), sound.rows)
+
+  sets_are : (i : ℕ) → i < (set_slots k.limits).count → slot (set_slots k.limits) at i ≡ set_bytes (set_by s k.limits (contents_of k) at i)
+  sets_are i lt =
+      let here : i < k.limits.files = omega (arith, lt, third_sets k.limits (some_are_third k.limits i lt)) in
+      written Sets i lt ∙ ap set_bytes (in_order i here ∙ set_is i here)
 
   pub spells_told : Spells k.limits (contents_of k) at s
   spells_told = record {
@@ -417,8 +431,8 @@ module _ (k : Metadata) (at : ℕ → List ℕ) (sound : AreSound k) (free : Fre
     blocks = all_in_image;
     each_block_once = distinct_permuted (used k sound at) (all_blocks k.limits at (all_records (files_told k))) (blocks_permuted k sound at) used_once;
     bitmap = λ n lt. written Bitmap n lt ∙ ap (bitmap_bytes n) taken_told;
-    rows = λ old. rows_are;
-    sets = λ third. absurd (not_third third);
+    rows = rows_are;
+    sets = sets_are;
   }
 
 -- the same, for the state that memory represents

@@ -18,6 +18,7 @@ use Rattle.lis_store.specs.Judging.{word_checks}
 use Rattle.lis_store.specs.Changes.{Holds, AreEditsFew}
 use Rattle.lis_store.specs.declared.change_fault.ChangeFault.{ChangeFault}
 use Rattle.lis_store.proofs.Cleaned.{none_marked}
+use Rattle.lis_store.proofs.Fitting.{most_all, all_fits}
 use Rattle.lis_store.proofs.SavedAlone.{IsChange, saves_alone}
 use Rattle.lis_store.proofs.ToldBy.{told_held}
 use Rattle.lis_store.proofs.StoreSays.{file_of_filed, size_of_filed}
@@ -350,8 +351,8 @@ module _ {p made : Metadata} {word : List ℕ} {rights : List ℕ} (form : AreIn
             both_ways (list_any meets (range_with_len 0 p.limits.files)) none
             (any_from_among meets (range_with_len 0 p.limits.files) slot (range_among 0 p.limits.files slot (omega arith) (omega (arith, below, form.sound.slots))) met)))
 
-    few_more : marked_count q ≤ marked_count made + 128
-    few_more = few_made anew_is some_met rows rows_few turned_row
+    few_more : marked_count q ≤ marked_count made + most_all p.limits
+    few_more = subst (λ (k : Metadata). marked_count q ≤ marked_count made + most_all k.limits) (metadata_are form.sound may stands) (few_made anew_is some_met rows rows_few turned_row)
 
     -- ---- the state that it represents
     module _ (at : ℕ → List ℕ) {s : State} (tells : Tells p at s) (new : Among (known s) word → ⊥) (sizes : (f : Filed) → Among p.catalog.entries f → length (bytes_told p.limits at f.rec) ≡ f.rec.size) where
@@ -429,7 +430,7 @@ module _ {old : Stored} {word : List ℕ} {rights numbers : List ℕ} {q : Metad
     limits = limits_then (in_form old sound) may declares.stands declares.sound declares.gives;
     room =
         let more = few_more (in_form old sound) may declares.stands declares.sound declares.gives in
-        omega (arith, (marked_then sound.metadata may declares.stands).few, none_marked old.metadata (sound.clean unbroken), may.short, more, sound.few unbroken);
+        omega (arith, (marked_then sound.metadata may declares.stands).few, none_marked old.metadata (sound.clean unbroken), may.short, more, all_fits old.metadata.limits sound.metadata.range, sound.few unbroken);
     edits = edits_then (in_form old sound) may declares.stands declares.sound declares.gives;
   }
 

@@ -29,6 +29,7 @@ use Rattle.lis_kept.specs.Edges.{head_number}
 use Rattle.lis_kept.proofs.AxiomTaken.{axiom_back, taken_unfelt}
 use Rattle.lis_store.specs.Saving.{settled, IsReady, Saves}
 use Rattle.lis_store.proofs.Cleaned.{none_marked}
+use Rattle.lis_store.proofs.Fitting.{most_all, all_fits}
 use Rattle.lis_store.proofs.Forgot.{word_before, word_stays, known_used}
 use Rattle.lis_store.proofs.FileTests.{tests_stay}
 use Rattle.lis_store.proofs.OwnStay.{own_before}
@@ -429,7 +430,17 @@ module _ {left right : ℕ} {old : Stored} {q : Metadata} (was : IsSound old) (t
     limits = ap (λ (u : Metadata). u.limits) end_is ∙ ap (λ (u : Metadata). u.limits) takes.unlinks.metadata;
     room =
         let few = few_made (is_rebuilt lessened) (some_had k.ext left) ups ups_had (λ slot n here turned. turned_up slot n turned) in
-        omega (arith, none_marked p (was.clean unbroken), takes.unlinks.marks.few, few, takes.forgets.marks.few, heads_few p.dict (word_of p.dict left), was.few unbroken);
+        omega (
+          arith,
+          none_marked p (was.clean unbroken),
+          takes.unlinks.marks.few,
+          few,
+          takes.forgets.marks.few,
+          heads_few p.dict (word_of p.dict left),
+          ap (λ (u : Metadata). most_all u.limits) takes.unlinks.metadata,
+          all_fits p.limits was.metadata.range,
+          was.few unbroken,
+        );
     edits =
         subst (λ (a : Ext). AreEditsFew a q.ext) (ap (λ (u : Metadata). u.ext) takes.unlinks.metadata)
         (subst (λ (c : Ext). AreEditsFew k.ext c) (sym (ap (λ (u : Metadata). u.ext) end_is)) (made_edits (is_rebuilt lessened)));

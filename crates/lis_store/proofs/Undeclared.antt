@@ -1,6 +1,6 @@
 -- What removing a declaration gives.
 use Rattle.std.proofs.Common.{eq-eqb}
-use Rattle.lis_store.proofs.Common.{◌≡◌, ◌⊎◌, refl, sym, ap, ap₂, ◌∙◌, subst, inl, inr, ℕ, ◌≤◌, ◌==◌, not, ◌&&◌, ◌||◌, Bool, true, false, if◌then◌else◌, List, [], ◌∷◌, length, slice_get, Option, Some, None, is_some, IsSome, Result, arith, get_or-set_other, list_any, and_parts, cases_eq, ne_eqb, not_from_false, not-true, not-false, same_Some, Among, contains_from_among, among_filter, filter_among, Meaning, looked, is_taken, number_of, word_of, word_from_number, Filed, rec_at, has, numbers_at, FileRecord, Pair, same_word, head_bytes, is_valued, is_test, has_word, Refusal, State, File, WellFormed, own_words, description, is_met, Situation, refused, rmdir, sorted_all_up, filter_le, same_word_decides, Metadata, block_of, is_marked, marked_count, is_own_link, has_pair, AreSound, FreeSlotsAreEmpty, KeepsInUse, bit_of, is_declared, declared_of, state_of, is_head_by, is_left_of, is_left_head_of, is_had, is_named_left, Tells, test_by, filed_rec, among_word, word_among, among_slot, used_had, differs, or_left, both_ways, false_from_ne_true, any_from_among, has_number, changed, same_tests, Rows, is_linked, words_told, file_told, among_from_number, number_from_among, one_number}
+use Rattle.lis_store.proofs.Common.{◌≡◌, ◌⊎◌, refl, sym, ap, ap₂, ◌∙◌, subst, inl, inr, ℕ, ◌+◌, ◌<◌, ◌≤◌, ◌==◌, not, ◌&&◌, ◌||◌, Bool, true, false, if◌then◌else◌, List, [], ◌∷◌, length, slice_get, Option, Some, None, is_some, IsSome, Result, arith, get_or-set_other, list_any, and_parts, cases_eq, cases_lt, ne_eqb, not_from_false, not-true, not-false, same_Some, Among, contains_from_among, among_filter, filter_among, Meaning, looked, is_taken, number_of, word_of, word_from_number, Filed, rec_at, has, numbers_at, FileRecord, Pair, same_word, head_bytes, is_valued, is_test, has_word, Refusal, State, File, WellFormed, own_words, description, is_met, Situation, refused, rmdir, sorted_all_up, filter_le, same_word_decides, Metadata, marked_count, is_own_link, has_pair, AreSound, FreeSlotsAreEmpty, KeepsInUse, bit_of, is_declared, declared_of, state_of, is_head_by, is_left_of, is_left_head_of, is_had, is_named_left, Tells, test_by, filed_rec, among_word, word_among, among_slot, used_had, differs, or_left, both_ways, false_from_ne_true, any_from_among, has_number, changed, same_tests, is_linked, words_told, file_told, among_from_number, number_from_among, one_number}
 use Rattle.lis_content.proofs.Numbers.{neither}
 use Rattle.lis_model.specs.Changes.{undeclared}
 use Rattle.lis_model.specs.Step.{is_in_use, rmdir_checks, first_refusal}
@@ -15,7 +15,6 @@ use Rattle.lis_kept.proofs.NeededTold.{may_undeclare, needed_told}
 use Rattle.lis_store.specs.Stored.{Stored, PairsAreApart, AreClosed, TestsAreMet, IsSound, StoreHolds}
 use Rattle.lis_store.specs.Saving.{Saves}
 use Rattle.lis_store.specs.Judging.{is_needed_by, undeclare_checks, IsUndeclarable}
-use Rattle.lis_store.specs.Redescribing.{IsTurned}
 use Rattle.lis_store.specs.ReplacingIn.{AreInForm}
 use Rattle.lis_store.specs.Testing.{without_number, undescribed, UndeclaresUnmet}
 use Rattle.lis_store.specs.Changes.{Holds, AreEditsFew}
@@ -25,7 +24,8 @@ use Rattle.lis_store.proofs.StoreSays.{described_told, file_of_filed}
 use Rattle.lis_store.proofs.HeadsUsed.{use_stays}
 use Rattle.lis_store.proofs.Judged.{judged_refused, judged_done, same_first}
 use Rattle.lis_store.proofs.Cleaned.{none_marked}
-use Rattle.lis_store.proofs.Rebuilt.{given_then, redescribed_edits, marked_more, unturned}
+use Rattle.lis_store.proofs.Fitting.{most_all, all_few, all_fits}
+use Rattle.lis_store.proofs.Rebuilt.{given_then, redescribed_edits, unturned}
 use Rattle.lis_store.proofs.Told.{words_same, retold}
 use Rattle.lis_store.proofs.Declared.{declared_told}
 use Rattle.lis_store.proofs.Without.{without_past, is_other}
@@ -235,28 +235,34 @@ module _ {old : Stored} {word : List ℕ} {number : ℕ} (sound : IsSound old) (
       };
     }
 
-    -- the rows that change are that of the number
-    few_marked : marked_count q ≤ 2
+    -- no other number is lost
+    few_marked : marked_count q ≤ 1 + most_all p.limits
     few_marked =
-        let more = marked_more p made (block_of p.limits Rows number ∷ []) (λ block is. by block (gone.takes.within block is)) in
+        let more = all_few p made (without_number p number) (number ∷ []) sound.metadata.range (omega arith) turned gone.takes.within in
         omega (arith, undeclares.marks.few, more, none_marked p (sound.clean unbroken))
       where
-        turned : (slot n : ℕ) → differs (numbers_at p.ext slot) (without_number p number slot) n ≡ true → (n ≡ number) ⊎ (n ≡ number → ⊥) → n ≡ number
-        turned slot n turns (inl is) = is
-        turned slot n turns (inr differ) =
+        same : (slot n : ℕ) → differs (numbers_at p.ext slot) (without_number p number slot) n ≡ true → (n ≡ number) ⊎ (n ≡ number → ⊥) → n ≡ number
+        same slot n turns (inl is) = is
+        same slot n turns (inr differ) =
             absurd (both_ways (differs (numbers_at p.ext slot) (without_number p number slot) n)
             (unturned (numbers_at p.ext slot) (without_number p number slot) n (sym (ap (λ ns. has_number ns n) (set_then slot)) ∙ has_same n slot differ)) turns)
 
-        by : (block : ℕ) → (is_marked p block ≡ true) ⊎ IsTurned p (without_number p number) block → (is_marked p block ≡ true) ⊎ Among (block_of p.limits Rows number ∷ []) block
-        by block (inl was) = inl was
-        by block (inr row) = inr (inl (sym (row.is ∙ ap (block_of p.limits Rows) (turned row.slot row.number row.turned (cases_eq row.number number)))))
+        -- past the files no slot has numbers
+        within : (slot n : ℕ) → differs (numbers_at p.ext slot) (without_number p number slot) n ≡ true → (slot < p.limits.files) ⊎ (p.limits.files ≤ slot) → slot < p.limits.files
+        within slot n turns (inl lt) = lt
+        within slot n turns (inr past) =
+            absurd (both_ways (differs (numbers_at p.ext slot) (without_number p number slot) n)
+            (unturned (numbers_at p.ext slot) (without_number p number slot) n (ap (λ ns. has_number ns n) (without_past p sound.metadata number slot past))) turns)
+
+        turned : (slot n : ℕ) → differs (numbers_at p.ext slot) (without_number p number slot) n ≡ true → (slot < p.limits.files) × Among (number ∷ []) n
+        turned slot n turns = (within slot n turns (cases_lt slot p.limits.files), inl (sym (same slot n turns (cases_eq n number))))
 
     pub undeclared_change : IsChange old q
     undeclared_change = record {
       settles = λ after.
           settled_sound q old.journal (form_then after) (subst (λ (k : Metadata). PairsAreApart k) (sym q_is) sound.pairs) (subst (λ (k : Metadata). shape_of old.journal ≡ image_shape k.limits) (sym q_is) sound.image) (sound.journal unbroken);
       limits = ap (λ (k : Metadata). k.limits) q_is;
-      room = omega (arith, few_marked, sound.few unbroken);
+      room = omega (arith, few_marked, all_fits p.limits sound.metadata.range, sound.few unbroken);
       edits = subst (λ (k : Metadata). AreEditsFew p.ext k.ext) (sym q_metadata) (redescribed_edits (without_number p number) p.limits.files p made gone.takes sound.metadata.files (without_past p sound.metadata number));
     }
 

@@ -294,7 +294,7 @@ fn and_where_some_is_taken(rt: HostRuntime) -> Result<(), Fail> {
 
 #[test]
 fn a_crash_in_a_load_leaves_the_state_behind_some_commands(rt: HostRuntime) -> Result<(), Fail> {
-    for words in MAKES {
+    for words in [MAKES[0], MAKES[1]] {
         for step in [1 << 20, 7] {
             let wrong = wrong_load_of_any(rt.alloc(), words, step)?;
             assert!(rt; wrong.is_none(), "in pieces of {step}: {wrong:?}");

@@ -13,10 +13,11 @@ use lis_shell::words::{make_len, task_of};
 use std::alloc::{AllocError, Global};
 use std::test::Fail;
 
-/// The words that make an image of either version.
-pub static MAKES: [&[&str]; 2] = [
+/// The words that make an image of each version.
+pub static MAKES: [&[&str]; 3] = [
     &["make", "i", "64", "64", "8"],
     &["make", "i", "64", "64", "8", "v2"],
+    &["make", "i", "64", "64", "8", "v3"],
 ];
 
 /// The byte at which its extension rows begin, each of eight bytes.

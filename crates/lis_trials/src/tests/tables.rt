@@ -141,7 +141,7 @@ pub static LARGE_FILES: [(&[&str], &[(&str, usize)], &str, &str); 7] = [
     ),
 ];
 
-/// The same of version 3, which no image has.
+/// The same of version 3.
 pub static V3_FILES: [(&[&str], &[(&str, usize)], &str, &str); 2] = [
     // A file may have as many bytes as all blocks. A larger file is refused as too large, even if there is no space for it.
     (
@@ -215,7 +215,7 @@ try|64|64|8|v4
 try|64|64|8|v3|v3
 make|x|64|64|8|V2
 make|x|64|64|8|v2|v2
-make|x|64|64|8|v3
+make|x|64|64|8|v4
 make|64|64|8|v2
 make|x|63|64|8
 make|x|64|64

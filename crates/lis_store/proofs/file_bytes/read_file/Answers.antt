@@ -3,7 +3,7 @@ use Rattle.lis_kept.proofs.BlocksTaken.{slot_within}
 use Rattle.lis_kept.proofs.Contents.{slot_counted}
 use Rattle.lis_store.proofs.ReadBack.{read_told}
 use Rattle.lis_store.proofs.file_bytes.read_file.Goals as goal
-use Rattle.lis_model.proofs.Stored.{stored_limit_le}
+use Rattle.lis_model.proofs.Ranges.{limit_le}
 use Rattle.lis_kept.proofs.Image.{same_blocks, same_homes}
 
 pub read-requires-clause-short : goal.read-requires-clause-short
@@ -11,7 +11,7 @@ read-requires-clause-short g c =
     let k = c.args.metadata.now in
     let rec = c.in-Some.rec.now in
     let form = record_in_form k.limits k.dict k.limits.blocks rec (c.limits.ensures.sound.records c.args.slot rec c.in-Some.ensures) in
-    omega (arith, stored_limit_le k.limits c.limits.ensures.sound.range, form.small, c.laid_by.ensures.size)
+    omega (arith, limit_le k.limits, form.small, c.laid_by.ensures.size)
 
 pub read-requires-clause-count : goal.read-requires-clause-count
 read-requires-clause-count g c =

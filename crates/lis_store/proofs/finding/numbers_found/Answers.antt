@@ -1,6 +1,6 @@
-use Rattle.lis_store.proofs.Common.{◌≡◌, ◌+◌, ◌∙◌, [], ◌∷◌, ◌++◌, length, refl, sym, ap, arith, false_from_ne_true}
+use Rattle.lis_store.proofs.Common.{◌≡◌, ◌+◌, ◌∙◌, [], ◌∷◌, ◌++◌, length, refl, ap, arith}
 use Rattle.lis_taxonomy.specs.Search.{is_found}
-use Rattle.lis_store.proofs.NumbersFound.{found_below, found_one, found_past, found_room, found_all}
+use Rattle.lis_store.proofs.NumbersFound.{found_below, found_one, found_past, found_room, found_end}
 use Rattle.lis_store.proofs.finding.numbers_found.Goals as goal
 
 pub push-requires : goal.push-requires
@@ -27,6 +27,4 @@ pub returns : goal.returns
 returns g c = λ props below.
     let test = is_found c.args.search.now in
     let none = c.in_default.ensures.none in
-    let past = found_past test c.loop-number.start 8192 c.loop-number.invariant.1 (λ n from lt. none n from) in
-    let others = found_past test props 8192 below.few (λ n from lt. false_from_ne_true (test n) (λ is. omega (arith, from, below.below n is))) in
-    c.loop-number.invariant.0 ∙ (past ∙ (sym others ∙ found_all test props))
+    c.loop-number.invariant.0 ∙ found_end test c.loop-number.start 1048576 props c.loop-number.invariant.1 (λ n from lt. none n from) below.few below.below

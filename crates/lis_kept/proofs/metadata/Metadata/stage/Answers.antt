@@ -52,7 +52,7 @@ returns-in_default-clause-staged c =
     let at : c.data_start-end.result ≡ data_start k.limits = c.data_start-end.ensures.start ∙ ap data_start c.limits.ensures.value in
     let within = end_within k k.limits c.data_start-end.result (ap (λ (l : Limits). l) (sym c.limits.ensures.value ∙ c.limits.ensures.value)) at c.limits.ensures.sound in
     let all = skipped k c.args.journal.now c.loop-from.journal c.loop-from.from c.data_start-end.result (omega (arith, c.loop-from-test.true)) within c.loop-from.invariant.0
-        (λ j ge lt. c.in_default.ensures.none j ge (omega (arith, lt, within))) c.loop-from.invariant.2 in
+    (λ j ge lt. c.in_default.ensures.none j ge (omega (arith, lt, within))) c.loop-from.invariant.2 in
     staged_all k c.data_start-end.result c.args.journal.now c.loop-from.journal c.limits.ensures.sound.range at all
 
 pub returns-then-n-end-clause-staged : goal.returns-then-n-end-clause-staged
@@ -61,7 +61,7 @@ returns-then-n-end-clause-staged c =
     let at : c.data_start-end.result ≡ data_start k.limits = c.data_start-end.ensures.start ∙ ap data_start c.limits.ensures.value in
     let within = end_within k k.limits c.data_start-end.result (ap (λ (l : Limits). l) (sym c.limits.ensures.value ∙ c.limits.ensures.value)) at c.limits.ensures.sound in
     let all = skipped k c.args.journal.now c.loop-from.journal c.loop-from.from c.data_start-end.result (omega (arith, c.loop-from-test.true)) within c.loop-from.invariant.0
-        (λ j ge lt. c.in-Some.ensures.least j ge (omega (arith, lt, c.if-n-end.true))) c.loop-from.invariant.2 in
+    (λ j ge lt. c.in-Some.ensures.least j ge (omega (arith, lt, c.if-n-end.true))) c.loop-from.invariant.2 in
     staged_all k c.data_start-end.result c.args.journal.now c.loop-from.journal c.limits.ensures.sound.range at all
 
 pub returns-clause-staged : goal.returns-clause-staged

@@ -9,7 +9,7 @@ use Rattle.lis_store.proofs.Keeping.{keeps_behind, left_unrefused}
 use Rattle.lis_store.proofs.Large.{held_behind_commit, held_lost_commit}
 use Rattle.lis_store.proofs.ReplaceFile.{anew_small}
 use Rattle.lis_store.proofs.store.Store.put_file.Goals.{then-is_large+in_ok-commit, else-is_large}
-use Rattle.lis_model.proofs.Stored.{stored_limit_le}
+use Rattle.lis_model.proofs.Ranges.{limit_le}
 use Rattle.lis_store.proofs.store.Store.put_file.Goals as goal
 
 pub overflow_cast-payload : goal.overflow_cast-payload
@@ -20,8 +20,7 @@ overflow_cast-payload g c =
 pub is_large-requires : goal.is_large-requires
 is_large-requires g c =
     let file = new_file c.args.name.now c.args.words.now.assigned.items c.args.payload.now in
-    let sound = subst (λ (k : Stored). IsSound k) c.self.view_is c.self.invariant in
-    omega (arith, stored_limit_le c.args.self.now.metadata.limits sound.metadata.range, (anew_small {old = c.args.self.now} refl c.args.slot (draft_of file) c.requires.may.0))
+    omega (arith, limit_le c.args.self.now.metadata.limits, (anew_small {old = c.args.self.now} refl c.args.slot (draft_of file) c.requires.may.0))
 
 pub returns-in_err-commit : goal.returns-in_err-commit
 returns-in_err-commit g c =
