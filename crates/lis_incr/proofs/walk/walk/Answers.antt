@@ -2,12 +2,13 @@ use Rattle.std.proofs.Common.{◌≡◌, false, suc, ◌+◌, ◌-◌, ◌&&◌,
 use Rattle.std.proofs.lemmas.Bool.{and_parts, and_from, and_left}
 use Rattle.std.proofs.lemmas.List.{take_more_set, append-nil}
 use Rattle.std.proofs.lemmas.Option.{slice_get_within}
-use Rattle.lis_bits.specs.Rows.{get, with_row}
-use Rattle.lis_bits.proofs.Laws.{row_sets, new_row, shaped}
+use Rattle.lis_bits.specs.Rows.{Rows, SetsBits, get}
+use Rattle.lis_bits.proofs.Laws.{new_row, shaped}
 use Rattle.lis_ext.specs.Ext as ext
 use Rattle.lis_model.specs.Route.{route_within}
 use Rattle.lis_eval.specs.View.{table_of}
 use Rattle.lis_eval.proofs.Members.{contains_at}
+use Rattle.lis_eval.proofs.Slots.{bits_shaped}
 use Rattle.lis_incr.specs.Ways.{words_of, further, Walks}
 use Rattle.lis_incr.proofs.Found.{has_told}
 use Rattle.lis_incr.proofs.Routes.{ends, known_more, step_had, walks_start, walks_on}
@@ -66,8 +67,8 @@ loop-step-preserved g c =
     let number = c.in-Some.number in
     let place = c.in-Some.place in
     let room = c.first_step.ensures.room in
-    let joined = subst (λ rows. c.and_row.new.to ≡ with_row rows 0 (λ bit. get rows 0 bit && ext.has e number bit)) c.first_step.ensures.files c.and_row.ensures in
-    let sets = row_sets found c.and_row.new.to 65 v.limits.files 0 (λ bit. get found 0 bit && ext.has e number bit) l.invariant.finds.shape (omega arith) joined in
+    let joined = subst (λ (rows : Rows). SetsBits rows c.and_row.new.to (length rows.rows) rows.bits 0 (λ bit. get rows 0 bit && ext.has e number bit)) c.first_step.ensures.files c.and_row.ensures in
+    let sets = bits_shaped found c.and_row.new.to 65 v.limits.files 0 (λ bit. get found 0 bit && ext.has e number bit) l.invariant.finds.shape joined in
     let first = c.in-Some.ensures.first own.0 own.1 own.2 in
     let left : c.args.most - step ≡ suc (c.args.most - (step + 1)) = omega arith in
     let within : step < length route = omega (arith, c.loop-step-test.true, c.requires.most, l.invariant.room.route) in
