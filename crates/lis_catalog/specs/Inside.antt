@@ -1,5 +1,5 @@
 -- How a catalog is held. No public clause cites this module.
-use Rattle.std.specs.Prelude.{◌≡◌, ℕ, zero, suc, ◌≤◌, ◌==◌, Bool, Option, None, is_some, List, [], ◌∷◌, length, map, count_by, slice_index_or, unwrap_or}
+use Rattle.std.specs.Prelude.{◌≡◌, ℕ, zero, suc, ◌<◌, ◌≤◌, ◌==◌, Bool, Option, None, is_some, List, [], ◌∷◌, length, map, count_by, slice_index_or, unwrap_or, IsTrue}
 use Rattle.std.specs.declared.cmp.Ordering.TheVariants.{Less, Equal, Greater}
 use Rattle.std.specs.List.{list_any}
 use Rattle.lis_limits.specs.declared.TheConstants.{V3_MAX_FILES}
@@ -39,6 +39,15 @@ pub record IsHeld (files : ℕ) (records : Records) (order : List ℕ) (room : �
   -- exactly the slots in the order have a record
   pub told : (n : ℕ) → slice_index_or records n None ≡ rec_at (catalog_of files records order) n
   pub counted : count_by is_some records ≡ length order
+
+-- all slots below this one have files
+abbrev pub AreTaken : Records → ℕ → Type 0
+AreTaken records free_from = (n : ℕ) → n < free_from → IsTrue (is_some (slice_index_or records n None))
+
+-- what the fields keep: the parts, and where a search for a free slot may start
+pub record IsKeptCatalog (files free_from : ℕ) (records : Records) (order : List ℕ) (room : ℕ) : Type 0 where
+  pub held : IsHeld files records order room
+  pub taken : AreTaken records free_from
 
 -- some file is in the slot
 abbrev pub has_slot : List Filed → ℕ → Bool

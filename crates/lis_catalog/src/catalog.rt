@@ -5,7 +5,7 @@ ghost use Rattle.lis_words.specs.Words.{is_file_name};
 ghost use Rattle.lis_limits.specs.declared.TheConstants.{V3_MAX_FILES};
 ghost use Rattle.lis_catalog.specs.Catalog.{Filed, slots, slot_of, rec_at, with_filed, without_slot, IsCatalog};
 ghost use Rattle.lis_catalog.specs.Calls.{Adds, Replaces};
-ghost use Rattle.lis_catalog.specs.Inside.{name_in, catalog_of, IsHeld, FoundAt, PlaceFor};
+ghost use Rattle.lis_catalog.specs.Inside.{name_in, catalog_of, AreTaken, IsHeld, FoundAt, PlaceFor};
 
 use lis_fields::FileRec;
 use lis_words::Name;
@@ -26,6 +26,8 @@ pub enum CatalogFault {
 #[derive(Drop)]
 pub struct Catalog {
     files: u32,
+    // All slots below it have files, so a search for a free slot starts from it.
+    free_from: u32,
     // For each slot, the record of the file in it.
     records: Vec<Option<FileRec>>,
     // The slots that have a record, in the order of the names.
@@ -38,11 +40,11 @@ impl Model for Catalog {
 
     ghost Value = { Filing };
 
-    ghost use Rattle.lis_catalog.specs.Inside.{catalog_of, IsHeld};
+    ghost use Rattle.lis_catalog.specs.Inside.{catalog_of, IsKeptCatalog};
 
     ghost view = { λ c. catalog_of c.files c.records.items c.order.items };
 
-    ghost invariant = { λ c. IsHeld c.files c.records.items c.order.items (vec_capacity c.order) };
+    ghost invariant = { λ c. IsKeptCatalog c.files c.free_from c.records.items c.order.items (vec_capacity c.order) };
 }
 
 // The record in the slot.
@@ -64,10 +66,20 @@ pub(crate) fn name_at(records: &[Option<FileRec>], slot: u32) -> &[u8]
 }
 
 // The first slot that no file is in.
-fn free_slot(records: &[Option<FileRec>]) -> Option<usize>
+fn first_free(records: &[Option<FileRec>]) -> Option<usize>
     ensures { result ≡ position is_none records.now }
 {
     records.iter().position(|held| held.is_none())
+}
+
+// The same. All slots below `from` have files, so it looks only at those from there on.
+fn first_free_from(records: &[Option<FileRec>], from: u32) -> Option<usize>
+    requires { AreTaken records.now from }
+    ensures { result ≡ position is_none records.now }
+{
+    let from = from as usize;
+    let found = first_free(&records[from..])?;
+    Some(from + found)
 }
 
 pub(crate) fn all_free(alloc: Global, files: u32) -> Result<Vec<Option<FileRec>>, AllocError>
@@ -88,6 +100,7 @@ impl Catalog {
     {
         Catalog {
             files: records.len() as u32,
+            free_from: 0,
             records,
             order,
         }
@@ -100,6 +113,7 @@ impl Catalog {
     {
         Ok(Catalog {
             files,
+            free_from: 0,
             records: all_free(alloc, files)?,
             order: Vec::with_capacity(alloc, files as usize)?,
         })
@@ -189,12 +203,23 @@ impl Catalog {
         if self.slot_of(&rec.name).is_some() {
             return Err(CatalogFault::NameTaken);
         }
-        let Some(slot) = free_slot(&self.records) else {
+        let Some(slot) = self.free_slot() else {
             return Err(CatalogFault::NoFileRoom);
         };
-        let slot = slot as u32;
         self.place(slot, rec);
         Ok(slot)
+    }
+
+    // The lowest slot that no file is in. The next search starts from it.
+    fn free_slot(&mut self) -> Option<u32>
+        ensures none { IfNone result (length self.old.entries ≡ self.old.files) }
+        ensures below { IfSome result (λ n. n < self.old.files) }
+        ensures free { IfSome result (λ n. rec_at self.old n ≡ None) }
+        ensures same { self.new ≡ self.old }
+    {
+        let slot = first_free_from(&self.records, self.free_from)? as u32;
+        self.free_from = slot;
+        Some(slot)
     }
 
     /// Replaces the record of the file in the slot.
@@ -219,6 +244,7 @@ impl Catalog {
     {
         let place = self.place_of(slot)?;
         self.order.remove(place);
+        self.free_from = self.free_from.min(slot);
         self.records[slot as usize].take()
     }
 

@@ -1,6 +1,7 @@
 mod Finds
 mod Entries
 pub mod Places
+mod Taken
 mod Holders
 mod Indexes
 mod Signs

@@ -1,5 +1,5 @@
 -- How a dictionary is held. No public clause cites this module.
-use Rattle.std.specs.Prelude.{◌≡◌, ℕ, ◌≤◌, Option, None, is_some, List, [], length, map, count_by, slice_index_or, unwrap_or}
+use Rattle.std.specs.Prelude.{◌≡◌, ℕ, ◌<◌, ◌≤◌, Option, None, is_some, List, [], length, map, count_by, slice_index_or, unwrap_or, IsTrue}
 use Rattle.lis_limits.specs.declared.TheConstants.{V3_MAX_PROPS}
 use Rattle.lis_dict.specs.Dict.{Dict, IsDict, word_of}
 
@@ -29,3 +29,12 @@ pub record IsSoundDict (props : ℕ) (holders : Holders) (order : List ℕ) (roo
   pub told : (n : ℕ) → slice_index_or holders n None ≡ word_of (dict_of props holders order) n
   pub counted : count_by is_some holders ≡ length order
   pub has_room : props ≤ room
+
+-- all numbers below this one have words
+abbrev pub AreTaken : Holders → ℕ → Type 0
+AreTaken holders free_from = (n : ℕ) → n < free_from → IsTrue (is_some (slice_index_or holders n None))
+
+-- what the fields keep: the parts, and where a search for a free number may start
+pub record IsKeptDict (props free_from : ℕ) (holders : Holders) (order : List ℕ) (room : ℕ) : Type 0 where
+  pub sound : IsSoundDict props holders order room
+  pub taken : AreTaken holders free_from

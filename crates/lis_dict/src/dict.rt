@@ -5,7 +5,7 @@ ghost use Rattle.std.specs.declared.cmp.Ordering.TheVariants.{Less, Greater};
 ghost use Rattle.lis_limits.specs.declared.TheConstants.{V3_MAX_PROPS};
 ghost use Rattle.lis_words.specs.Words.{is_property, word_cmp, test_of};
 ghost use Rattle.lis_dict.specs.Dict.{number_of, word_of, place_of, with_entry, without_word, IsDict, Adds};
-ghost use Rattle.lis_dict.specs.Inside.{word_in, dict_of, IsSoundDict};
+ghost use Rattle.lis_dict.specs.Inside.{word_in, dict_of, AreTaken, IsSoundDict};
 
 use lis_words::Word;
 use std::alloc::{AllocError, Global};
@@ -19,6 +19,8 @@ pub struct NoPropertyRoom;
 #[derive(Drop)]
 pub struct Dict {
     props: u32,
+    // All numbers below it have words, so a search for a free number starts from it.
+    free_from: u32,
     // The numbers that have a word, in the order of their words.
     order: Vec<u32>,
     // The word that has it, at each number below `props`.
@@ -31,11 +33,11 @@ impl Model for Dict {
 
     ghost Value = { Table };
 
-    ghost use Rattle.lis_dict.specs.Inside.{dict_of, IsSoundDict};
+    ghost use Rattle.lis_dict.specs.Inside.{dict_of, IsKeptDict};
 
     ghost view = { λ d. dict_of d.props d.holders.items d.order.items };
 
-    ghost invariant = { λ d. IsSoundDict d.props d.holders.items d.order.items (vec_capacity d.order) };
+    ghost invariant = { λ d. IsKeptDict d.props d.free_from d.holders.items d.order.items (vec_capacity d.order) };
 }
 
 // The bytes of the word that has the number, or no bytes.
@@ -56,6 +58,16 @@ fn first_free(holders: &[Option<Word>]) -> Option<usize>
     holders.iter().position(|holder| holder.is_none())
 }
 
+// The same. All numbers below `from` have words, so it looks only at those from there on.
+fn first_free_from(holders: &[Option<Word>], from: u32) -> Option<usize>
+    requires { AreTaken holders.now from }
+    ensures { result ≡ position is_none holders.now }
+{
+    let from = from as usize;
+    let found = first_free(&holders[from..])?;
+    Some(from + found)
+}
+
 impl Dict {
     // The dictionary of these words by number, whose numbers stand in the order of their words.
     pub(crate) fn of_parts(holders: Vec<Option<Word>>, order: Vec<u32>) -> Dict
@@ -64,6 +76,7 @@ impl Dict {
     {
         Dict {
             props: holders.len() as u32,
+            free_from: 0,
             order,
             holders,
         }
@@ -76,6 +89,7 @@ impl Dict {
     {
         Ok(Dict {
             props,
+            free_from: 0,
             order: Vec::with_capacity(alloc, props as usize)?,
             holders: vec![in alloc; None; props as usize]?,
         })
@@ -164,6 +178,7 @@ impl Dict {
         };
         let number = self.order.remove(place);
         self.holders[number as usize] = None;
+        self.free_from = self.free_from.min(number);
         Some(number)
     }
 
@@ -219,15 +234,15 @@ impl Dict {
         place as u32
     }
 
-    // The lowest number that no word has.
-    fn free_number(&self) -> Option<u32>
-        ensures none { IfNone result (length self.now.entries ≡ self.now.props) }
-        ensures below { IfSome result (λ n. n < self.now.props) }
-        ensures free { IfSome result (λ n. word_of self.now n ≡ None) }
+    // The lowest number that no word has. The next search starts from it.
+    fn free_number(&mut self) -> Option<u32>
+        ensures none { IfNone result (length self.old.entries ≡ self.old.props) }
+        ensures below { IfSome result (λ n. n < self.old.props) }
+        ensures free { IfSome result (λ n. word_of self.old n ≡ None) }
+        ensures same { self.new ≡ self.old }
     {
-        match first_free(&self.holders) {
-            Some(place) => Some(place as u32),
-            None => None,
-        }
+        let number = first_free_from(&self.holders, self.free_from)? as u32;
+        self.free_from = number;
+        Some(number)
     }
 }

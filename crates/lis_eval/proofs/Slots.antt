@@ -1,5 +1,5 @@
 -- What a view keeps, of one file or word, and rows of bits on files.
-use Rattle.std.proofs.Common.{◌≡◌, ℕ, ◌+◌, ◌<◌, ◌==◌, Bool, true, false, ◌&&◌, ◌||◌, ◌⊎◌, if◌then◌else◌, Some, None, List, take, refl, sym, ap, subst, ◌∙◌, inl, inr, eq-eqb}
+use Rattle.std.proofs.Common.{◌≡◌, ℕ, ◌+◌, ◌<◌, ◌==◌, Bool, true, false, ◌&&◌, ◌||◌, ◌⊎◌, if◌then◌else◌, Some, None, List, length, take, refl, sym, ap, subst, ◌∙◌, inl, inr, arith, eq-eqb}
 use Rattle.std.specs.Bool.{one_answer}
 use Rattle.std.specs.List.{slice_get, find, Contains}
 use Rattle.std.specs.Option.{option_map}
@@ -17,6 +17,14 @@ use Rattle.lis_eval.proofs.Members.{contains_at, find_first, find_is, find_none,
 -- ---- rows with other values that are the same
 pub bits_same : (old new : Rows) (rows bits row : ℕ) (f g : ℕ → Bool) → SetsBits old new rows bits row f → ((bit : ℕ) → bit < bits → f bit ≡ g bit) → SetsBits old new rows bits row g
 bits_same old new rows bits row f g sets same = record { shape = sets.shape; at = λ bit lt. sets.at bit lt ∙ same bit lt; others = sets.others }
+
+-- rows whose shape is known
+pub bits_shaped : (old new : Rows) (rows bits row : ℕ) (f : ℕ → Bool) → HasShape old rows bits → SetsBits old new (length old.rows) old.bits row f → SetsBits old new rows bits row f
+bits_shaped old new rows bits row f shape sets = record {
+  shape = record { tall = sets.shape.tall ∙ shape.tall; wide = sets.shape.wide ∙ shape.wide };
+  at = λ bit lt. sets.at bit (omega (arith, shape.wide));
+  others = sets.others;
+}
 
 pub bits_stay : (old : Rows) (rows bits row : ℕ) (g : ℕ → Bool) → HasShape old rows bits → ((bit : ℕ) → bit < bits → get old row bit ≡ g bit) → SetsBits old old rows bits row g
 bits_stay old rows bits row g shape same = record { shape = shape; at = same; others = λ other bit differ. refl }

@@ -13,22 +13,28 @@ use Rattle.lis_laws.proofs.Sources.Source.{Declared, Left, LeftHead, Described}
 use Rattle.lis_model.specs.Image.{bitmap_blocks}
 use Rattle.lis_model.specs.State.{heads}
 use Rattle.lis_kept.specs.Metadata.{file_by}
-use Rattle.lis_store.specs.Stands.{records_in}
+use Rattle.lis_store.specs.Stands.{records_in, set_by}
 use Rattle.lis_store.proofs.Points.{set_of_points}
 use Rattle.lis_store.proofs.SlotOrder.{given_at}
 use Rattle.lis_open.specs.declared.words.Words.{Words}
 use Rattle.lis_open.specs.declared.axioms.Axioms.{Axioms}
 use Rattle.lis_open.specs.declared.files.Files.{Files}
-use Rattle.lis_open.specs.Checks.{AreContents, IsUsed, WordFails, BitFails, RowFault, RowFails, Fails, has_bitmap_bit, rank}
+use Rattle.lis_open.specs.Checks.{AreContents, IsUsed, WordFails, BitFails, RowFault, RowFails, SetFails, Fails, has_bitmap_bit, rank}
 use Rattle.lis_open.specs.ReadWords.{AreFirstWords, AreFirstAxioms, WordsAreSpelled, AxiomsAreSpelled}
 use Rattle.lis_open.specs.ReadFiles.{in_catalog, AreFiles, FilesEnded}
-use Rattle.lis_open.specs.ReadAll.{metadata_in, AreNoMarks, is_stray, IsFirstStray, IsRowSpelled, IsFirstRow, row_place, AreSlotsRead, SlotsEnded, AreRead, HasStray, IsFirstBit, BitmapDiffers, RowsChecked, PartsEnded}
+use Rattle.lis_open.specs.ReadAll.{metadata_in, AreNoMarks, is_stray, IsFirstStray, IsRowSpelled, IsFirstRow, row_place, RowDiffers, IsSetSpelled, IsFirstSet, SetsChecked, AreSlotsRead, SlotsEnded, AreRead, HasStray, IsFirstBit, BitmapDiffers, PartsEnded}
 use Rattle.lis_open.proofs.Once.{rising_map}
-use Rattle.lis_kept.specs.Areas.{AreBitmapBlocks}
+use Rattle.lis_slots.specs.Slots.{slot}
+use Rattle.lis_ext.specs.Numbers.{numbers_where}
+use Rattle.lis_ext.proofs.Numbers.{numbers_of, numbers_same}
+use Rattle.lis_fields.specs.Layouts.{set_bytes}
+use Rattle.lis_model.specs.declared.spot.Spot.TheVariants.{Set}
+use Rattle.lis_kept.proofs.InArea.{third_sets, some_are_third}
+use Rattle.lis_kept.specs.Areas.{AreBitmapBlocks, set_slots}
 use Rattle.lis_open.proofs.Descriptions.{told_among, among_told, one_number, pair_among, among_pair, Sides, sides}
 use Rattle.lis_open.proofs.FilesRead.{file_is, slot_read, used_is, rec_is}
 use Rattle.lis_open.proofs.AxiomsRead.{are_axioms}
-use Rattle.lis_open.proofs.Joined.{slots_without, named, none_past, metadata_sound}
+use Rattle.lis_open.proofs.Joined.{slots_without, slot_rises, named, none_past, metadata_sound}
 use Rattle.lis_kept.proofs.Used.{WhyUsed, why_used, used_flagged, used_had, used_left, named_head}
 use Rattle.lis_kept.proofs.Used.WhyUsed.{Flagged, Had, OnLeft, HeadOfLeft}
 use Rattle.lis_open.proofs.WordsRead.{declared_told, axioms_told, file_is_told, are_told, word_at_told}
@@ -45,7 +51,7 @@ use Rattle.lis_ports.proofs.OnlyReading.{reads_then}
 use Rattle.lis_open.specs.Reading.{IsFirst, IsFirstOfAll, Passes, HasPartCause, ReadsPart, Recalls, KindFails, PartsFail}
 use Rattle.lis_open.proofs.Damage.{one_contents}
 use Rattle.lis_open.proofs.SpotKinds.{none_before, none_fails}
-use Rattle.lis_open.proofs.Lefts.{no_file_has, row_place_is, has_rows}
+use Rattle.lis_open.proofs.Lefts.{no_file_has, row_place_is}
 use Rattle.lis_open.proofs.BitmapRead.{bit_spelled}
 use Rattle.lis_open.specs.declared.mounting.OpenFault.{OpenFault}
 use Rattle.lis_open.specs.declared.mounting.OpenFault.TheVariants.{TooShort, Damaged, DiskFault, NoMemory}
@@ -343,15 +349,14 @@ module _ (limits : Limits) (at : ℕ → List ℕ) (words : Words) (axioms : Axi
     row_passes : (m : ℕ) → m < limits.props → IsRowSpelled limits at files.ext m → RowFails limits at m → ⊥
     row_passes m below spelled fails =
         let same = one_contents limits at fails.contents held_contents fails.are (contents_are limits at words axioms files (no_marks limits) read) in
-        elim (subst (λ (c : Contents). RowFault limits at c m) same fails.fault) [ RowWrong lt wrong ↦ wrong (spelled ∙ row_is m) | RestNotZero last p from lt not_zero ↦ omega (arith, last, below) ]
+        elim (subst (λ (c : Contents). RowFault limits at c m) same fails.fault) [ RowWrong lt here wrong ↦ wrong (spelled ∙ row_is m) | RestNotZero last p from lt not_zero ↦ omega (arith, last, below) ]
 
     row_fails : (p : ℕ) → p < (row_slots limits).count → (IsRowSpelled limits at files.ext p → ⊥) → RowFails limits at (row_place limits p)
     row_fails p below differs = record {
-      before_third = has_rows limits range;
       contents = held_contents;
       are = contents_are limits at words axioms files (no_marks limits) read;
       fault = elim (cases_lt p limits.props) [
-        | inl lt ↦ subst (λ n. RowFault limits at held_contents n) (omega (arith, row_place_is limits p, lt)) (RowWrong lt (λ same. differs (same ∙ sym (row_is p))))
+        | inl lt ↦ subst (λ n. RowFault limits at held_contents n) (omega (arith, row_place_is limits p, lt)) (RowWrong lt below (λ same. differs (same ∙ sym (row_is p))))
         | inr past ↦ subst (λ n. RowFault limits at held_contents n) (omega (arith, row_place_is limits p, past)) (RestNotZero refl p past below (λ same. differs (same ∙ sym (rest_is p past))))
       ];
     }
@@ -362,6 +367,56 @@ module _ (limits : Limits) (at : ℕ → List ℕ) (words : Words) (axioms : Axi
       is = refl;
       none_before = none_before limits at 7 (row_place limits p) (λ m lt.
           row_passes m (omega (arith, row_place_is limits p, lt)) (first.same_before m (omega (arith, row_place_is limits p, lt))));
+    }
+
+    pub rows_pass : ((p : ℕ) → p < (row_slots limits).count → IsRowSpelled limits at files.ext p) → (spot : Spot) → rank spot ≡ 7 → Fails limits at spot → ⊥
+    rows_pass spelled = none_fails limits at 7 each
+      where
+        each : (n : ℕ) → RowFails limits at n → ⊥
+        each n fails =
+            let same = one_contents limits at fails.contents held_contents fails.are (contents_are limits at words axioms files (no_marks limits) read) in
+            elim (subst (λ (c : Contents). RowFault limits at c n) same fails.fault) [
+              | RowWrong below lt wrong ↦ wrong (spelled n lt ∙ row_is n)
+              | RestNotZero last p past lt not_zero ↦ not_zero (spelled p lt ∙ rest_is p past)
+            ]
+
+    -- ---- sets
+    -- the numbers of a slot, by the state
+    set_is : (i : ℕ) → i < limits.files → numbers_at files.ext i ≡ set_by (spelled_state limits held_contents at) limits held_contents at i
+    unfolding numbers_where
+    set_is i lt =
+        sym (numbers_of limits.props (numbers_at files.ext i) (slot_rises limits words axioms files read.files_are i) below)
+        ∙ (numbers_same limits.props (has_number (numbers_at files.ext i)) (λ p. row_bit held_state limits held_contents at p i) (λ p small. bit_is p i lt)
+        ∙ ap (λ (t : State). set_by t limits held_contents at i) (sym (state_read limits at words axioms files (no_marks limits) read)))
+      where
+        below : (p : ℕ) → Among (numbers_at files.ext i) p → p < limits.props
+        below p m = elim (cases_lt p limits.props) [
+          | inl lt ↦ lt
+          | inr past ↦ absurd (both_ways (has files.ext p i) (none_past limits words axioms files (no_marks limits) all_read p i past) (has_from_among (numbers_at files.ext i) p m))
+        ]
+
+    -- there is a slot for each set
+    set_slot : (i : ℕ) → i < (set_slots limits).count → i < limits.files
+    set_slot i lt = omega (arith, lt, third_sets limits (some_are_third limits i lt))
+
+    set_passes : (i : ℕ) → IsSetSpelled limits at files.ext i → SetFails limits at i → ⊥
+    set_passes i spelled fails =
+        let same = one_contents limits at fails.contents held_contents fails.are (contents_are limits at words axioms files (no_marks limits) read) in
+        fails.wrong (subst (λ (c : Contents). slot (set_slots limits) at i ≡ set_bytes (set_by (spelled_state limits c at) limits c at i)) (sym same) (spelled ∙ ap set_bytes (set_is i (set_slot i fails.below))))
+
+    set_fails : (i : ℕ) → i < (set_slots limits).count → (IsSetSpelled limits at files.ext i → ⊥) → SetFails limits at i
+    set_fails i below differs = record {
+      below = below;
+      contents = held_contents;
+      are = contents_are limits at words axioms files (no_marks limits) read;
+      wrong = λ same. differs (same ∙ ap set_bytes (sym (set_is i (set_slot i below))));
+    }
+
+    pub first_wrong_set : (i : ℕ) → IsFirstSet limits at files.ext i → IsFirst limits at 8 (Set i)
+    first_wrong_set i first = record {
+      fails = set_fails i first.below first.differs;
+      is = refl;
+      none_before = none_before limits at 8 i (λ m lt. set_passes m (first.same_before m lt));
     }
 
 -- ---- how reading the parts one after another ends
@@ -414,14 +469,26 @@ module _ (limits : Limits) (at : ℕ → List ℕ) (words : Words) (axioms : Axi
           pass_more limits at 6 words_passed
           (bits_pass limits at words axioms files read (λ n lt. bit_spelled limits at files.map n (bitmap (n / 32768) (omega (arith, lt)))))
 
-      pub rows_ended : {T : Type 0} (result : Result T OpenFault) → RowsChecked limits at files.ext result → PartsEnded limits at words axioms files result
-      rows_ended (Ok done) same = record { properties = read.properties; pairs = read.pairs; records = read.records; bitmap = bitmap; rows = same }
-      rows_ended (Err (TooShort len need)) differs = differs
-      rows_ended (Err (Damaged spot)) differs =
+      pub rows_failed : (fault : OpenFault) → RowDiffers limits at files.ext fault → PartsFail limits at fault
+      rows_failed (TooShort len need) differs = differs
+      rows_failed (Damaged spot) differs =
           first_of_all limits at 7 spot bitmap_passed
           (subst (λ (place : Spot). IsFirst limits at 7 place) (sym differs.1) (first_wrong_row limits at words axioms files read range (used unmarked) differs.0 differs.2))
-      rows_ended (Err DiskFault) differs = tt
-      rows_ended (Err NoMemory) differs = absurd differs
+      rows_failed DiskFault differs = tt
+      rows_failed NoMemory differs = absurd differs
+
+      module _ (rows : (p : ℕ) → p < (row_slots limits).count → IsRowSpelled limits at files.ext p) where
+        rows_passed : PassBelow limits at 8
+        rows_passed = pass_more limits at 7 bitmap_passed (rows_pass limits at words axioms files read range (used unmarked) rows)
+
+        pub sets_ended : {T : Type 0} (result : Result T OpenFault) → SetsChecked limits at files.ext result → PartsEnded limits at words axioms files result
+        sets_ended (Ok done) same = record { properties = read.properties; pairs = read.pairs; records = read.records; bitmap = bitmap; rows = rows; sets = same }
+        sets_ended (Err (TooShort len need)) differs = differs
+        sets_ended (Err (Damaged spot)) differs =
+            first_of_all limits at 8 spot rows_passed
+            (subst (λ (place : Spot). IsFirst limits at 8 place) (sym differs.1) (first_wrong_set limits at words axioms files read range (used unmarked) differs.0 differs.2))
+        sets_ended (Err DiskFault) differs = tt
+        sets_ended (Err NoMemory) differs = absurd differs
 
 -- ---- the block that was read last
 pub none_recalled : (last : LastBlock) (kept : ℕ → List ℕ) → last.number ≡ None → Recalls last kept

@@ -1,6 +1,6 @@
 -- The blocks of a file as they are read: those that its slot lists, and those that its index blocks list.
 use Rattle.std.proofs.Common.{rules}
-use Rattle.lis_open.proofs.Common.{◌∙◌, ℕ, List, IsTrue, ◌≡◌, refl, sym, ap, ◌^◌, ◌<◌, ◌≤◌, ◌&&◌, Bool, Option, Some, [], arith, IfSome, subst, true, false, length, data_start, Meaning, IsSettled, Held, Fits, Slots, slot, PropSlot, FileSlot, prop_once, Limits, are_in_range, image_blocks, few_properties, list_all-append, are_free, are_distinct, FileRecord, is_record, blocks_told, HasIndex, and_parts, both_ways}
+use Rattle.lis_open.proofs.Common.{◌∙◌, ℕ, List, IsTrue, ◌≡◌, refl, sym, ap, ◌^◌, ◌<◌, ◌≤◌, ◌&&◌, Bool, Option, Some, [], arith, IfSome, subst, true, false, length, data_start, Meaning, IsSettled, Held, Fits, Slots, slot, PropSlot, FileSlot, prop_once, Limits, are_in_range, image_blocks, list_all-append, are_free, are_distinct, FileRecord, is_record, blocks_told, HasIndex, and_parts, both_ways}
 use Rattle.lis_journal.proofs.Fitting.{fits_unchanged}
 use Rattle.lis_open.specs.declared.blocks.LastBlock.{LastBlock}
 use Rattle.lis_ports.specs.Calls.{OnlyReads}
@@ -8,14 +8,14 @@ use Rattle.lis_open.specs.Reading.{Recalls, IsReadAs}
 use Rattle.lis_journal.specs.Record.{HomeBlock}
 use Rattle.lis_journal.specs.Phases.{looked}
 use Rattle.lis_fields.proofs.OneSpelling.{file_once}
-use Rattle.lis_kept.proofs.InArea.{few_files, few_blocks as few_data}
+use Rattle.lis_kept.proofs.InArea.{few_ahead, few_blocks as few_data}
 use Rattle.lis_open.specs.Checks.{IsProperty, IsFile}
 use Rattle.lis_content.specs.Large.{slot_count, file_blocks, IsIndexed}
 use Rattle.lis_content.proofs.Indexes.{large_blocks, small_blocks}
 use Rattle.lis_fields.proofs.Parts.{record_tests, few_blocks as few_in_form}
 use Rattle.lis_kept.proofs.Contents.{slot_blocks_counted}
 use Rattle.lis_open.specs.ReadFiles.{HasBlocks, AreItsBlocks}
-use Rattle.lis_model.proofs.Stored.{stored_limit_le, stored_records, stored_bitmap, fewer_descriptions}
+use Rattle.lis_model.proofs.Ranges.{limit_le}
 
 pub fits_after : {a b : Meaning} (journal : Held) (kept : ℕ → List ℕ) → OnlyReads a b → Fits journal a kept → Fits journal b kept
 fits_after journal kept reads fits = fits_unchanged journal reads.run (reads.same fits.honest) fits
@@ -30,8 +30,7 @@ StillRecalls journal old before last = (kept : ℕ → List ℕ) → Fits journa
 -- ---- slots and the values that they spell
 -- the blocks of an image have numbers of 32 bits
 pub few_blocks : (limits : Limits) (blocks : ℕ) → IsTrue (are_in_range limits) → blocks ≡ image_blocks limits → blocks < 2 ^ 32
-few_blocks limits blocks range is =
-    omega (arith, is, stored_records limits range, fewer_descriptions limits range, stored_bitmap limits range, few_files limits range, few_properties limits range, few_data limits range)
+few_blocks limits blocks range is = omega (arith, is, few_ahead limits range, few_data limits range)
 
 -- what is read of a slot, if nothing is staged
 pub slot_read : (slots : Slots) (staged : List HomeBlock) (kept : ℕ → List ℕ) (n : ℕ) (bytes : List ℕ) → staged ≡ [] → bytes ≡ slot slots (looked staged kept) n → bytes ≡ slot slots kept n
@@ -50,9 +49,9 @@ pub one_file : (limits : Limits) (at : ℕ → List ℕ) (n : ℕ) (a b : FileSl
 one_file limits at n a b is_a is_b = file_once limits a b is_a.range is_b.range (sym is_a.bytes ∙ is_b.bytes)
 
 -- ---- well-formed records
-pub size_of_form : (limits : Limits) (rec : FileRecord) {seen : FileRecord} → IsTrue (are_in_range limits) → IsTrue (is_record limits rec) → seen ≡ rec → seen.size ≤ 1048576
-size_of_form limits rec range form view =
-    omega (arith, stored_limit_le limits range, (record_tests limits rec form).small, ap (λ (r : FileRecord). r.size) view)
+pub size_of_form : (limits : Limits) (rec : FileRecord) {seen : FileRecord} → IsTrue (is_record limits rec) → seen ≡ rec → seen.size ≤ 67108864
+size_of_form limits rec form view =
+    omega (arith, limit_le limits, (record_tests limits rec form).small, ap (λ (r : FileRecord). r.size) view)
 
 -- a slot has the numbers of index blocks if its file has any, and otherwise those of its blocks
 pub slot_of_form : (limits : Limits) (rec : FileRecord) → IsTrue (are_in_range limits) → IsTrue (is_record limits rec) → length rec.blocks ≡ slot_count rec.size

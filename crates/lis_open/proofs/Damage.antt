@@ -1,6 +1,6 @@
 -- If blocks spell a state, no part fails its check.
-use Rattle.std.proofs.Common.{◌≢◌, get_or-drop}
-use Rattle.lis_open.proofs.Common.{rules, ◌≡◌, ◌∙◌, refl, sym, ap, subst, inl, inr, ℕ, ◌+◌, ◌-◌, ◌*◌, ◌/◌, ◌<◌, ◌≤◌, nat_lt, nat_le, Bool, true, false, is_some, List, [], ◌∷◌, length, map, take, drop, get_or, slice_get, Option, Some, None, arith, option_to_list, length-drop, flat_map, ltb-true, leb-true, length-take-le, ⊎_elim, list_all, or-false, cases_lt, length-replicate, slice_get_within, get_or_from_slice_get, same_Some, Among, among_from_contains, contains_from_among, among_left, map_among, among_flat_map, block, Slots, slot, row_bit, is_had_by, marked, replicate, are_distinct, FileRecord, prop_bytes, is_prop, axiom_bytes, is_axiom, file_bytes, is_file, PropSlot, FreeProp, AxiomSlot, FreeAxiom, Pair, FileSlot, FreeFile, Used, prop_once, axiom_once, word_cmp, is_plain_word, head_bytes, among_from_has_word, among_set_of, Limits, Spot, Super, BadRecord, Property, Axiom, Word, Row, State, description, known, is_nameable, is_assignable, property_slots, axiom_slots, file_slots, blocks_told, among_from_number, placed_at, among_place, Contents, AreSlots, word_in, words_in, word_at, all_records, spelled_state, one_array, AllApart, and_parts, both_ways, get_or_past, slice_get-get_or, flat_map_among, replayed, has_number, has_word, has_word_from_among, set_of_among, all_among, Bitmap, set_of, File, pair_cmp, has_from_among, file_of_record, are_in_range, IsTrue}
+use Rattle.std.proofs.Common.{get_or-drop}
+use Rattle.lis_open.proofs.Common.{rules, ◌≡◌, ◌∙◌, refl, sym, ap, subst, inl, inr, ℕ, ◌+◌, ◌-◌, ◌*◌, ◌/◌, ◌<◌, ◌≤◌, nat_lt, nat_le, Bool, true, false, is_some, List, [], ◌∷◌, length, map, take, drop, get_or, slice_get, Option, Some, None, arith, option_to_list, length-drop, flat_map, ltb-true, leb-true, length-take-le, ⊎_elim, list_all, or-false, cases_lt, length-replicate, slice_get_within, get_or_from_slice_get, same_Some, Among, among_from_contains, contains_from_among, among_left, map_among, among_flat_map, block, Slots, slot, row_bit, is_had_by, marked, replicate, are_distinct, FileRecord, prop_bytes, is_prop, axiom_bytes, is_axiom, file_bytes, is_file, PropSlot, FreeProp, AxiomSlot, FreeAxiom, Pair, FileSlot, FreeFile, Used, prop_once, axiom_once, word_cmp, is_plain_word, head_bytes, among_from_has_word, among_set_of, Limits, Spot, Super, BadRecord, Property, Axiom, Word, Row, State, description, known, is_nameable, is_assignable, property_slots, axiom_slots, file_slots, blocks_told, among_from_number, placed_at, among_place, Contents, AreSlots, word_in, words_in, word_at, all_records, spelled_state, one_array, AllApart, and_parts, both_ways, get_or_past, slice_get-get_or, flat_map_among, replayed, has_number, has_word, has_word_from_among, set_of_among, all_among, Bitmap, set_of, File, pair_cmp, has_from_among, file_of_record}
 use Rattle.lis_open.proofs.AxiomsRead.{axiom_fault_by}
 use Rattle.lis_open.proofs.SpotKinds.{behind}
 use Rattle.std.proofs.lemmas.List.{length-map}
@@ -14,7 +14,6 @@ use Rattle.lis_laws.proofs.Sources.Source.{LeftHead}
 use Rattle.lis_model.specs.declared.spot.Spot.TheVariants.{File as FileSpot, Set}
 use Rattle.lis_model.specs.Image.{bitmap_blocks}
 use Rattle.lis_kept.proofs.Formed.{some_word}
-use Rattle.lis_kept.proofs.InArea.{rows_counted}
 use Rattle.lis_fields.specs.Layouts.{set_bytes}
 use Rattle.lis_kept.specs.Areas.{set_slots}
 use Rattle.lis_store.specs.Stands.{set_by, pair_in, pairs_in, is_named_axiom, is_free_axiom, records_in, all_blocks, Spells, Stands}
@@ -63,7 +62,7 @@ used_record FreeFile rec m = absurd m
 used_record (Used r) rec (inl same) = ap Used same
 used_record (Used r) rec (inr m) = absurd m
 
-module _ (limits : Limits) (contents : Contents) (at : ℕ → List ℕ) (range : IsTrue (are_in_range limits)) (spells : Spells limits contents at (spelled_state limits contents at)) where
+module _ (limits : Limits) (contents : Contents) (at : ℕ → List ℕ) (spells : Spells limits contents at (spelled_state limits contents at)) where
   abbrev s : State
   s = spelled_state limits contents at
 
@@ -306,10 +305,10 @@ module _ (limits : Limits) (contents : Contents) (at : ℕ → List ℕ) (range 
       (λ less. both_ways (has_number (all_blocks limits at records) n) (sym (bit_is n fails.below) ∙ less.0) (used_number n less.1)) fails.fault
 
   -- ---- rows
-  no_row_fault : (n : ℕ) → limits.version ≢ 3 → RowFault limits at contents n → ⊥
-  no_row_fault n before (RowWrong lt wrong) = wrong (spells.rows before n (omega (arith, lt, rows_counted limits range)))
-  no_row_fault n before (RestNotZero last p past lt not_zero) =
-      not_zero (spells.rows before p lt
+  no_row_fault : (n : ℕ) → RowFault limits at contents n → ⊥
+  no_row_fault n (RowWrong below lt wrong) = wrong (spells.rows n lt)
+  no_row_fault n (RestNotZero last p past lt not_zero) =
+      not_zero (spells.rows p lt
       ∙ zero_row (limits.files / 8) (row_bit s limits contents at p) (λ i.
       ap (λ q. is_had_by s (file_of_record limits properties at) (word_in q) (get_or contents.files i FreeFile)) (get_or_past properties p FreeProp (omega (arith, past, spells.properties.count)))))
 
@@ -317,7 +316,7 @@ module _ (limits : Limits) (contents : Contents) (at : ℕ → List ℕ) (range 
   no_set : (n : ℕ) → SetFails limits at n → ⊥
   no_set n fails =
       fails.wrong (subst (λ (c : Contents). slot (set_slots limits) at n ≡ set_bytes (set_by (spelled_state limits c at) limits c at n)) (sym (one_contents limits at fails.contents contents fails.are are_contents))
-      (spells.sets fails.third n fails.below))
+      (spells.sets n fails.below))
 
   none_fails : (spot : Spot) → Fails limits at spot → ⊥
   none_fails Super fails = fails
@@ -327,12 +326,12 @@ module _ (limits : Limits) (contents : Contents) (at : ℕ → List ℕ) (range 
   none_fails (FileSpot n) fails = no_file n fails
   none_fails (Word n) fails = no_word n fails
   none_fails (Bitmap n) fails = no_bit n fails
-  none_fails (Row n) fails = no_row_fault n fails.before_third (subst (λ (c : Contents). RowFault limits at c n) (one_contents limits at fails.contents contents fails.are are_contents) fails.fault)
+  none_fails (Row n) fails = no_row_fault n (subst (λ (c : Contents). RowFault limits at c n) (one_contents limits at fails.contents contents fails.are are_contents) fails.fault)
   none_fails (Set n) fails = no_set n fails
 
 -- if blocks spell a state, no part after the journal fails its check
-pub spelled_passes : (limits : Limits) (contents : Contents) (at : ℕ → List ℕ) (s : State) (spot : Spot) → IsTrue (are_in_range limits) → Spells limits contents at s → Fails limits at spot → ⊥
-spelled_passes limits contents at s spot range spells = none_fails limits contents at range (subst (λ (t : State). Spells limits contents at t) spells.state spells) spot
+pub spelled_passes : (limits : Limits) (contents : Contents) (at : ℕ → List ℕ) (s : State) (spot : Spot) → Spells limits contents at s → Fails limits at spot → ⊥
+spelled_passes limits contents at s spot spells = none_fails limits contents at (subst (λ (t : State). Spells limits contents at t) spells.state spells) spot
 
 -- ---- images
 replayed_passes : (image : List ℕ) (s : State) (spot : Spot) → Stands image s → FailsReplayed image spot → ⊥
@@ -341,7 +340,7 @@ replayed_passes image s spot stands fails =
     let limits = one_limits image fails.limits s.limits fails.super (record { range = stands.range; spelled = stands.super }) in
     let replay = same_Some fails.replay stands.replay (sym fails.replays ∙ (ap (λ (l : Limits). replayed (image_layout l) image) limits ∙ stands.replays)) in
     let there = subst (λ (l : Limits). Fails l (λ n. block n fails.replay) spot) limits fails.fails in
-    spelled_passes s.limits stands.contents (λ n. block n stands.replay) s spot stands.range stands.spells (subst (λ (r : List ℕ). Fails s.limits (λ n. block n r) spot) replay there)
+    spelled_passes s.limits stands.contents (λ n. block n stands.replay) s spot stands.spells (subst (λ (r : List ℕ). Fails s.limits (λ n. block n r) spot) replay there)
 
 record_passes : (image : List ℕ) (s : State) (b : ℕ) → Stands image s → RecordFails image b → ⊥
 unfolding Stands

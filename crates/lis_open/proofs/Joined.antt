@@ -23,7 +23,6 @@ use Rattle.lis_words.specs.Words.{test_of, is_file_name}
 use Rattle.lis_journal.specs.Staging.{are_whole}
 use Rattle.lis_model.specs.State.{is_declarable, file_limit, blocks_taken, used_blocks, AxiomsAreFormed, FilesAreFormed}
 use Rattle.lis_model.specs.Tests.{is_met}
-use Rattle.lis_model.proofs.Stored.{stored_range}
 use Rattle.lis_kept.specs.TestEdges.{test_by}
 use Rattle.lis_kept.proofs.Known.{number_told, declared_set, declared_has_number, among_axiom, words_known, among_word}
 use Rattle.lis_store.proofs.FileTests.{assigned_no_test, test_described}
@@ -44,12 +43,23 @@ use Rattle.lis_kept.proofs.Dropped.{record_in_form}
 use Rattle.lis_store.proofs.FileBlocks.{told_counted}
 use Rattle.lis_store.proofs.Marks.{distinct_pieces}
 use Rattle.lis_store.proofs.Relates.{told_few}
+use Rattle.std.specs.List.Sorted.{IsStrictlyIncreasing}
+use Rattle.lis_store.proofs.Differing.{none_rising}
+use Rattle.lis_open.proofs.Gathering.{described_rise}
 use Rattle.lis_open.proofs.Once.{few_below, more_le, sum_within, rising_map}
 
 -- ---- files by their slots
 module _ (limits : Limits) (words : Words) (axioms : Axioms) (files : Files) (first : AreFiles limits words axioms files) where
   pub slot_numbers : (slot : ℕ) (rec : FileRecord) → rec_at files.catalog slot ≡ Some rec → HasSomeNumbers words axioms.taxonomy rec (numbers_at files.ext slot)
   slot_numbers slot rec is = subst (λ o. AreNumbers words axioms.taxonomy o (numbers_at files.ext slot)) is (first.taken.sets slot)
+
+  -- they rise
+  pub slot_rises : (slot : ℕ) → IsStrictlyIncreasing (numbers_at files.ext slot)
+  slot_rises slot = by (rec_at files.catalog slot) (first.taken.sets slot)
+    where
+      by : (o : Option FileRecord) → AreNumbers words axioms.taxonomy o (numbers_at files.ext slot) → IsStrictlyIncreasing (numbers_at files.ext slot)
+      by None none = subst IsStrictlyIncreasing (sym none) none_rising
+      by (Some rec) are = described_rise axioms.taxonomy (own_numbers words.dict rec.tags (found_words words rec.name are.bytes)) (numbers_at files.ext slot) are.has.are
 
   pub given_word : (slot tag : ℕ) (rec : FileRecord) → rec_at files.catalog slot ≡ Some rec → Among rec.tags tag → (w : List ℕ) × (word_of words.dict tag ≡ Some w) × (is_assignable (declared_words words) w ≡ true)
   given_word slot tag rec is m = assignable_word words (word_of words.dict tag) (all_among (is_assignable_number words) rec.tags tag (first.taken.given slot rec is) m)
@@ -358,7 +368,7 @@ module _ (limits : Limits) (words : Words) (axioms : Axioms) (files : Files) (ma
   -- ---- the state
   formed : WellFormed s
   formed = record {
-    limits = stored_range limits range;
+    limits = range;
     declared_set = declared_set held held_sound;
     axiom_set = rising_from_sorted pair_cmp pair_order s.axioms (sorted_with_more pair_cmp pair_order [] (pairs_told words.dict axioms.slots.items) (sorted_nil pair_cmp pair_order));
     file_set = sym (rising_map word_cmp file_cmp (λ (f : Filed). f.rec.name) (file_told limits words.dict at) files.catalog.entries (λ a b. refl)) ∙ held_sound.catalog.rising;

@@ -1,17 +1,19 @@
 -- Rows of the left sides of axioms and of their heads, and the words that are not in use.
 use Rattle.std.proofs.Common.{rules}
-use Rattle.std.proofs.Common.{min, ◌↔◌, ◌≢◌}
-use Rattle.lis_open.proofs.Common.{◌≡◌, ◌∙◌, inl, inr, sym, ap, ap₂, ℕ, ◌+◌, ◌*◌, ◌/◌, ◌<◌, ◌≤◌, ◌==◌, Bool, are_in_range, image_blocks, few_properties, false, List, length, IsTrue, arith, subst, refl, if◌then◌else◌, ◌&&◌, ◌||◌, not, true, cond, Some, None, is_some, list_all, bits_bytes, has, Limits, slot, Row, row_slots, both_ways, list_any, or-false, HasShape, get, with_row, is_taken, Dict, IsDict, word_of, AxiomSlot, Metadata, is_head_by, is_had, is_left_of, is_left_head_of, is_used, Rows}
-use Rattle.lis_fields.specs.Layouts.{zeros}
+use Rattle.std.proofs.Common.{min, ◌↔◌, ◌%◌}
+use Rattle.lis_open.proofs.Common.{◌≡◌, ◌∙◌, inl, inr, sym, ap, ap₂, ℕ, ◌+◌, ◌*◌, ◌/◌, ◌<◌, ◌≤◌, ◌==◌, Bool, are_in_range, image_blocks, false, List, length, IsTrue, arith, subst, refl, if◌then◌else◌, ◌&&◌, ◌||◌, not, true, cond, Some, None, is_some, list_all, bits_bytes, has, Limits, slot, Row, row_slots, both_ways, list_any, or-false, HasShape, get, with_row, is_taken, Dict, IsDict, word_of, AxiomSlot, Metadata, is_head_by, is_had, is_left_of, is_left_head_of, is_used, Rows}
+use Rattle.lis_fields.specs.Layouts.{zeros, set_bytes}
 use Rattle.std.proofs.lemmas.Bool.Decides.{nat_tests}
 use Rattle.lis_bits.proofs.Numbers.{bytes_none}
-use Rattle.lis_ext.specs.Ext.{Ext}
+use Rattle.lis_ext.specs.Ext.{Ext, set_of}
 use Rattle.lis_fields.proofs.Widths.{zeros_pass, zeros_of}
-use Rattle.std.proofs.Math.Nat.{div-lt_iff_lt-mul}
-use Rattle.lis_kept.proofs.InArea.{files_range, some_rows}
-use Rattle.lis_model.specs.Image.{descriptions_start}
-use Rattle.lis_model.proofs.Stored.{each_files_limit, stored_parts, stored_descriptions}
-use Rattle.lis_open.specs.ReadAll.{IsRowSpelled, IsFirstRow, row_place, is_stray}
+use Rattle.lis_kept.specs.Areas.{set_slots}
+use Rattle.lis_kept.specs.Areas.Area.{Rows as RowArea, Sets as SetArea}
+use Rattle.lis_kept.proofs.InArea.{in_area, some_are_early}
+use Rattle.lis_model.specs.Image.{descriptions_start, description_blocks}
+use Rattle.lis_model.specs.declared.spot.Spot.TheVariants.{Set}
+use Rattle.lis_model.proofs.Ranges.{early_descriptions, early_limits, each_files_limit, few_parts}
+use Rattle.lis_open.specs.ReadAll.{IsRowSpelled, IsFirstRow, row_place, IsSetSpelled, IsFirstSet, is_stray}
 use Rattle.lis_kept.specs.Rows.{row_bytes}
 use Rattle.std.proofs.Math.Bool.{or-true, or_assoc}
 use Rattle.std.proofs.lemmas.Bool.{and_right}
@@ -35,27 +37,33 @@ pub zeros_decide : (e : Ext) (files number : ℕ) (bytes : List ℕ) (all : Bool
 zeros_decide e files number bytes all count width none is = search (rules, zeros_of, no_file_has, zeros_pass)
 
 -- ---- rows as they are read
--- there are rows in versions 1 and 2
-pub has_rows : (limits : Limits) → IsTrue (are_in_range limits) → limits.version ≢ 3
-has_rows limits range third = elim ((stored_parts limits range).version) [ inl one ↦ omega (arith, one, third) | inr two ↦ omega (arith, two, third) ]
-
 -- there are few of them
-pub few_rows : (limits : Limits) → IsTrue (are_in_range limits) → 4096 / (limits.files / 8) * ((limits.props * limits.files + 32767) / 32768) ≤ 2000000
-few_rows limits range =
-    each_files_limit (λ files. 4096 / (files / 8) * ((limits.props * files + 32767) / 32768) ≤ 2000000) limits.files (files_range limits range)
-    (omega (arith, few)) (omega (arith, few)) (omega (arith, few)) (omega (arith, few)) (omega (arith, few)) (omega (arith, few)) (omega (arith, few))
+pub few_rows : (limits : Limits) → IsTrue (are_in_range limits) → (limits.version == 3) ≡ false → 4096 / (limits.files / 8) * description_blocks limits ≤ 2000000
+few_rows limits range early = subst (λ n. 4096 / (limits.files / 8) * n ≤ 2000000) (sym (early_descriptions limits early)) counted
   where
     few : limits.props ≤ 8192
-    few = few_properties limits range
+    few = (few_parts limits range early).props
+
+    counted : 4096 / (limits.files / 8) * ((limits.props * limits.files + 32767) / 32768) ≤ 2000000
+    counted =
+        each_files_limit (λ files. 4096 / (files / 8) * ((limits.props * files + 32767) / 32768) ≤ 2000000) limits.files (early_limits limits range early).files
+        (omega (arith, few)) (omega (arith, few)) (omega (arith, few)) (omega (arith, few)) (omega (arith, few)) (omega (arith, few)) (omega (arith, few))
+
+-- if there is a row, it is not wide, and its width divides a block
+pub row_narrow : (limits : Limits) (p : ℕ) → IsTrue (are_in_range limits) → p < (row_slots limits).count → limits.files ≤ 4096
+row_narrow limits p range lt = (few_parts limits range (some_are_early limits p lt)).files
+
+pub row_divides : (limits : Limits) (p : ℕ) → IsTrue (are_in_range limits) → p < (row_slots limits).count → 4096 % (limits.files / 8) ≡ 0
+row_divides limits p range lt =
+    each_files_limit (λ files. 4096 % (files / 8) ≡ 0) limits.files (early_limits limits range (some_are_early limits p lt)).files refl refl refl refl refl refl refl
 
 -- each has its place before the bitmap
 pub row_within : (limits : Limits) (p width first blocks : ℕ) → IsTrue (are_in_range limits) → p < (row_slots limits).count → width ≡ limits.files / 8 → first ≡ descriptions_start limits → blocks ≡ image_blocks limits
     → first + p / (4096 / width) < blocks
 row_within limits p width first blocks range lt is_width is_first is_blocks =
-    let rows = (limits.props * limits.files + 32767) / 32768 in
-    let placed : p / (4096 / (limits.files / 8)) < rows = (div-lt_iff_lt-mul {k = 4096 / (limits.files / 8)} {x = p} {y = rows} (some_rows limits range)).1 (omega (arith, lt)) in
+    let inside = in_area limits range RowArea p lt in
     let same : p / (4096 / width) ≡ p / (4096 / (limits.files / 8)) = ap (λ w. p / (4096 / w)) is_width in
-    omega (arith, placed, same, is_first, is_blocks, stored_descriptions limits range)
+    omega (arith, inside.1, same, is_first, is_blocks)
 
 pub row_read : (limits : Limits) (kept : ℕ → List ℕ) (ext : Ext) (p first width : ℕ) (buf : List ℕ) (same : Bool) → first ≡ descriptions_start limits → width ≡ limits.files / 8
     → ((count : ℕ) → buf ≡ slot (record { first = first; count = count; width = width }) kept p) → (IsTrue same ↔ (buf ≡ row_bytes ext p)) → IsTrue same ↔ IsRowSpelled limits kept ext p
@@ -74,6 +82,22 @@ row_place_is limits p = grind (arith, nat_tests)
 pub first_row : (limits : Limits) (kept : ℕ → List ℕ) (ext : Ext) (p place : ℕ) (same : Bool) → p < (row_slots limits).count → place ≡ min p limits.props → (IsTrue same ↔ IsRowSpelled limits kept ext p) → same ≡ false
     → SameBelow limits kept ext p → (q : ℕ) × (Row place ≡ Row (row_place limits q)) × IsFirstRow limits kept ext q
 first_row limits kept ext p place same below is test differs before = search (rules, row_place_is, both_ways)
+
+-- ---- sets as they are read
+-- each has its place before the bitmap
+pub set_within : (limits : Limits) (i first blocks : ℕ) → IsTrue (are_in_range limits) → i < (set_slots limits).count → first ≡ descriptions_start limits → blocks ≡ image_blocks limits → first + i / 8 < blocks
+set_within limits i first blocks range lt is_first is_blocks = let inside = in_area limits range SetArea i lt in omega (arith, inside.1, is_first, is_blocks)
+
+pub set_read : (limits : Limits) (kept : ℕ → List ℕ) (ext : Ext) (i first : ℕ) (buf : List ℕ) (same : Bool) → first ≡ descriptions_start limits
+    → ((count : ℕ) → buf ≡ slot (record { first = first; count = count; width = 512 }) kept i) → (IsTrue same ↔ (buf ≡ set_bytes (set_of ext i))) → IsTrue same ↔ IsSetSpelled limits kept ext i
+set_read limits kept ext i first buf same start read test =
+    let there : slot (set_slots limits) kept i ≡ buf = ap (λ a. slot (record { first = a; count = (set_slots limits).count; width = 512 }) kept i) (sym start) ∙ sym (read (set_slots limits).count) in
+    (λ yes. there ∙ test.0 yes, λ spelled. test.1 (sym there ∙ spelled))
+
+-- the first set that is not spelled as memory requires
+pub first_set : (limits : Limits) (kept : ℕ → List ℕ) (ext : Ext) (i : ℕ) (same : Bool) → i < (set_slots limits).count → (IsTrue same ↔ IsSetSpelled limits kept ext i) → same ≡ false
+    → ((j : ℕ) → j < i → IsSetSpelled limits kept ext j) → (j : ℕ) × (Set i ≡ Set j) × IsFirstSet limits kept ext j
+first_set limits kept ext i same below test differs before = (i, refl, record { below = below; differs = λ spelled. both_ways same differs (test.1 spelled); same_before = before })
 
 -- ---- rows of the left sides of axioms and of their heads, and the words that are not in use
 -- a row keeps its shape when it is set

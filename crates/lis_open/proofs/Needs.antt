@@ -2,12 +2,11 @@
 use Rattle.lis_open.proofs.Common.{◌≡◌, ℕ, ◌≤◌, List, length, ap, inl, inr, arith, part, Limits, image_blocks, State}
 use Rattle.lis_store.specs.Stands.{Stands}
 use Rattle.lis_fields.proofs.OneSpelling.{super_once}
-use Rattle.lis_model.proofs.Stored.{stored_range}
 use Rattle.lis_open.specs.Opens.{HasSuper, IsNeeded}
 
 -- a super block has one value of limits
 pub one_limits : (image : List ℕ) (a b : Limits) → HasSuper a image → HasSuper b image → a ≡ b
-one_limits image a b is_a is_b = super_once a b (part 0 4096 image) (stored_range a is_a.range) (stored_range b is_b.range) is_a.spelled is_b.spelled
+one_limits image a b is_a is_b = super_once a b (part 0 4096 image) is_a.range is_b.range is_a.spelled is_b.spelled
 
 pub has_super : (image : List ℕ) (s : State) → Stands image s → HasSuper s.limits image
 unfolding Stands

@@ -1,9 +1,9 @@
 -- How opening an image ends: the super block, the journal, and the parts after it.
-use Rattle.std.proofs.Common.{◌≢◌, filter, slice_index_or}
+use Rattle.std.proofs.Common.{filter, slice_index_or}
 use Rattle.std.specs.List.{range_with_len}
 use Rattle.lis_fields.specs.Layouts.{set_bytes}
 use Rattle.lis_kept.specs.Areas.{set_slots}
-use Rattle.lis_open.proofs.Common.{rules, ◌≡◌, refl, sym, ap, ap₂, ◌∙◌, subst, inl, inr, ℕ, ◌+◌, ◌/◌, ◌≤◌, ◌<◌, nat_lt, Bool, true, false, cond, List, [], ◌++◌, map, take, replicate, Option, Some, None, IsTrue, IsSomeAnd, arith, fold, flat_map, Contains, ◌⊎◌, ◌*◌, length, Result, Ok, Err, insert_key, list_all, part, bits_bytes, block, Keeps, Slots, slot, marked, are_distinct, is_large, index_bytes, numbers_in, index_home, FileRecord, SpellsSuper, prop_bytes, is_prop, axiom_bytes, is_axiom, file_bytes, is_file, FreeFile, PropSlot, Limits, bitmap_start, data_start, image_blocks, are_in_range, State, file_cmp, blocks_needed, property_slots, axiom_slots, file_slots, row_slots, bytes_told, blocks_told, HasIndex, Contents, AreSlots, all_records, spelled_state, is_had_by, word_at, row_bit, replayed, File, file_of_record, same_Some, Meaning, IsSettled, Leaves, Held, Fits, Spot, Super, BadRecord, Tells, Stored, IsSound, contents_of, leaves_weaken, leaves_then, IsWritten, ⊎_map, leb-true, le-leb, and_parts, and_from, nat_le}
+use Rattle.lis_open.proofs.Common.{rules, ◌≡◌, refl, sym, ap, ap₂, ◌∙◌, subst, inl, inr, ℕ, ◌+◌, ◌/◌, ◌≤◌, ◌<◌, nat_lt, Bool, true, false, cond, List, [], ◌++◌, map, take, replicate, Option, Some, None, IsTrue, IsSomeAnd, arith, fold, flat_map, Contains, ◌⊎◌, ◌*◌, length, Result, Ok, Err, insert_key, list_all, part, bits_bytes, block, Keeps, Slots, slot, marked, are_distinct, is_large, index_bytes, numbers_in, index_home, FileRecord, SpellsSuper, prop_bytes, is_prop, axiom_bytes, is_axiom, file_bytes, is_file, FreeFile, PropSlot, Limits, bitmap_start, data_start, image_blocks, are_in_range, State, file_cmp, blocks_needed, property_slots, axiom_slots, file_slots, row_slots, bytes_told, blocks_told, HasIndex, Contents, AreSlots, all_records, spelled_state, is_had_by, word_at, row_bit, replayed, File, file_of_record, same_Some, Meaning, IsSettled, Leaves, Held, Fits, Spot, Super, BadRecord, Tells, Stored, IsSound, contents_of, leaves_weaken, leaves_then, IsWritten, ⊎_map}
 use Rattle.std.proofs.Math.Path.{fun_ext}
 use Rattle.lis_journal.specs.Images.{StandsFor as KeptBy, KeepsPast}
 use Rattle.lis_journal.proofs.Fitting.{replayed-front}
@@ -33,8 +33,7 @@ use Rattle.lis_open.proofs.Damage.{damaged}
 use Rattle.lis_kept.specs.Image.{image_layout}
 use Rattle.lis_journal.specs.declared.layout.Layout.{Layout}
 use Rattle.lis_model.specs.Image.{properties_start, bitmap_blocks}
-use Rattle.lis_model.specs.Ranges.{are_in_range}
-use Rattle.lis_model.proofs.Stored.{stored_range, stored_bitmap}
+use Rattle.lis_kept.proofs.InArea.{some_properties}
 
 -- ---- slots and bytes depend on home blocks alone
 le_more : (m a b : ℕ) → m ≤ a → m ≤ a + b
@@ -104,16 +103,16 @@ module _ (limits : Limits) (at there : ℕ → List ℕ) (same : (n : ℕ) → p
       bitmap : (n : ℕ) → n < bitmap_blocks limits → there (bitmap_start limits + n) ≡ bitmap_bytes n (marked (replicate limits.blocks false) (all_blocks limits there (all_records contents.files)))
       bitmap n lt = sym (same (bitmap_start limits + n) (omega arith)) ∙ (spells.bitmap n lt ∙ ap (λ ns. bitmap_bytes n (marked (replicate limits.blocks false) ns)) all)
 
-      rows : limits.version ≢ 3 → (p : ℕ) → p < (row_slots limits).count → slot (row_slots limits) there p ≡ bits_bytes (limits.files / 8) (row_bit s limits contents there p)
-      rows before p lt =
+      rows : (p : ℕ) → p < (row_slots limits).count → slot (row_slots limits) there p ≡ bits_bytes (limits.files / 8) (row_bit s limits contents there p)
+      rows p lt =
           sym (ap (part (place (row_slots limits) p) (row_slots limits).width) (same (home (row_slots limits) p) (le_more (properties_start limits) (row_slots limits).first _ (omega arith))))
-          ∙ (spells.rows before p lt
+          ∙ (spells.rows p lt
           ∙ ap (λ f. bits_bytes (limits.files / 8) (λ i. is_had_by s f (word_at contents.properties p) (slice_index_or contents.files i FreeFile))) (same_files contents.properties))
 
-      sets : limits.version ≡ 3 → (i : ℕ) → i < (set_slots limits).count → slot (set_slots limits) there i ≡ set_bytes (set_by s limits contents there i)
-      sets third i lt =
+      sets : (i : ℕ) → i < (set_slots limits).count → slot (set_slots limits) there i ≡ set_bytes (set_by s limits contents there i)
+      sets i lt =
           sym (ap (part (place (set_slots limits) i) (set_slots limits).width) (same (home (set_slots limits) i) (le_more (properties_start limits) (set_slots limits).first _ (omega arith))))
-          ∙ (spells.sets third i lt
+          ∙ (spells.sets i lt
           ∙ ap (λ f. set_bytes (filter (λ p. is_had_by s f (word_at contents.properties p) (slice_index_or contents.files i FreeFile)) (range_with_len 0 limits.props))) (same_files contents.properties))
 
 -- ---- images represent a state
@@ -126,7 +125,7 @@ kept_stands s contents at image range super spells keeps = by (replayed (image_l
     by None is none = absurd none
     by (Some r) is keep = record {
       range = range;
-      super = subst (λ (bytes : List ℕ). SpellsSuper s.limits bytes) (sym (keep.same 0 (inl refl)) ∙ replayed-front (image_layout s.limits) image r (omega (arith, stored_bitmap s.limits range)) keeps.0 is) super;
+      super = subst (λ (bytes : List ℕ). SpellsSuper s.limits bytes) (sym (keep.same 0 (inl refl)) ∙ replayed-front (image_layout s.limits) image r (omega (arith, some_properties s.limits range)) keeps.0 is) super;
       long = keeps.0;
       replay = r;
       replays = is;
@@ -182,29 +181,14 @@ pub failed_opened : (old new : Meaning) → Opened old new (Err DiskFault)
 failed_opened old new = unspotted old new DiskFault tt tt (λ spot fault. cc)
 
 -- ---- the super block, as it was read
-pub old_enough : (limits : Limits) → IsTrue (are_in_range limits) → limits.version ≤ 2 → IsTrue (are_in_range limits)
-old_enough limits range old = and_from (are_in_range limits) (nat_le limits.version 2) range (le-leb limits.version 2 old)
-
-pub super_read : (image read : List ℕ) (limits : Limits) → read ≡ part 0 4096 image → IsTrue (are_in_range limits) × SpellsSuper limits read → limits.version ≤ 2 → HasSuper limits image
-super_read image read limits is told old = record { range = old_enough limits told.0 old; spelled = subst (λ bytes. SpellsSuper limits bytes) is told.1 }
+pub super_read : (image read : List ℕ) (limits : Limits) → read ≡ part 0 4096 image → IsTrue (are_in_range limits) × SpellsSuper limits read → HasSuper limits image
+super_read image read limits is told = record { range = told.0; spelled = subst (λ bytes. SpellsSuper limits bytes) is told.1 }
 
 pub none_read : (image read : List ℕ) (found : Option Limits) → found ≡ None → read ≡ part 0 4096 image
     → ((told : Limits) → IsTrue (are_in_range told) → SpellsSuper told read → found ≡ Some told) → (limits : Limits) → HasSuper limits image → ⊥
 none_read image read found none is same limits super =
-    let some = same limits (stored_range limits super.range) (subst (λ bytes. SpellsSuper limits bytes) (sym is) super.spelled) in
+    let some = same limits super.range (subst (λ bytes. SpellsSuper limits bytes) (sym is) super.spelled) in
     cc
-
--- a super block of a version that is not stored is none
-pub later_read : (image read : List ℕ) (found : Option Limits) (later : Limits) → found ≡ Some later → 2 < later.version → read ≡ part 0 4096 image
-    → ((told : Limits) → IsTrue (are_in_range told) → SpellsSuper told read → found ≡ Some told) → (limits : Limits) → HasSuper limits image → ⊥
-later_read image read found later is_found past is same limits super =
-    let some = same limits (stored_range limits super.range) (subst (λ bytes. SpellsSuper limits bytes) (sym is) super.spelled) in
-    let told : limits ≡ later = some_once limits later (sym some ∙ is_found) in
-    let old = leb-true limits.version 2 (and_parts (are_in_range limits) (nat_le limits.version 2) super.range).1 in
-    omega (arith, past, old, ap (λ (l : Limits). l.version) told)
-  where
-    some_once : (a b : Limits) → Some a ≡ Some b → a ≡ b
-    some_once a b e = cc
 
 -- ---- no super block
 no_super_needs : (old : Meaning) → 4096 ≤ old.len → ((limits : Limits) → HasSuper limits old.bytes → ⊥) → IsLongEnough old
@@ -295,7 +279,7 @@ module _ (old : Meaning) (limits : Limits) (super : HasSuper limits old.bytes) (
       by : (o : Option (List ℕ)) → o ≡ Some stands.replay → IsSomeAnd o (λ r. KeptBy (image_layout s.limits) (λ n. block n r) image) → Stands image s
       by o is kept =
           kept_stands s stands.contents (λ n. block n stands.replay) image stands.range
-          (subst (λ bytes. SpellsSuper s.limits bytes) (sym (replayed-front (image_layout s.limits) old.bytes stands.replay (omega (arith, stored_bitmap s.limits stands.range)) stands.long stands.replays)) stands.super)
+          (subst (λ bytes. SpellsSuper s.limits bytes) (sym (replayed-front (image_layout s.limits) old.bytes stands.replay (omega (arith, some_properties s.limits stands.range)) stands.long stands.replays)) stands.super)
           stands.spells (at_replay o is kept)
 
   -- ---- the journal
@@ -345,7 +329,7 @@ module _ (old : Meaning) (limits : Limits) (super : HasSuper limits old.bytes) (
 
     super_kept : SpellsSuper limits (block 0 r)
     super_kept =
-        subst (λ bytes. SpellsSuper limits bytes) (sym (replayed-front (image_layout limits) old.bytes r (omega (arith, stored_bitmap limits super.range)) (omega (arith, whole, long)) replays)) super.spelled
+        subst (λ bytes. SpellsSuper limits bytes) (sym (replayed-front (image_layout limits) old.bytes r (omega (arith, some_properties limits super.range)) (omega (arith, whole, long)) replays)) super.spelled
 
     fails_in : (spot : Spot) → Fails limits kept spot → FailsIn old.bytes spot
     fails_in =

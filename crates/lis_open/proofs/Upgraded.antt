@@ -1,24 +1,25 @@
 -- A state of version 1 and the metadata of it, in another version: the same except for the limits.
 use Rattle.std.proofs.Common.{rules}
-use Rattle.std.proofs.Common.{take-append-drop}
-use Rattle.lis_open.proofs.Common.{◌≡◌, sym, ap, ◌∙◌, subst, ℕ, ◌+◌, ◌≤◌, nat_le, true, Some, List, length, map, slice_get, sum, IsTrue, arith, ◌⊎◌, refl, ap₂, inl, inr, ◌*◌, ◌==◌, Bool, false, [], ◌∷◌, ◌++◌, take, drop, Result, Ok, Err, if◌then◌else◌, eq-eqb, le-leb, drop-drop, Contains, leb-true, list_all, among_from_contains, contains_from_among, filed_rec, flat_map, slot, property_slots, axiom_slots, file_slots, row_slots, bitmap_start, bytes_told, file_told, state_of, is_large, both_ways, Filed, rec_at, are_distinct, Dict, FileRecord, SpellsSuper, Pair, data_start, State, description, WellFormed, Metadata, AreSound, blocks_told, Tells, Meaning, part, Torn, Always, IsSettled, Leaves, part-torn, part-put, block, Keeps, Spreads, Limits, image_blocks, Stored, IsSound, and_from, has_number, all_among, File, IsWritten, put, always_settled, leaves_then, leaves_weaken, replayed, recovered, ⊎_map, word_of, is_some, nat_lt, cond, ◌/◌, ◌&&◌}
+use Rattle.std.proofs.Common.{max, take-append-drop}
+use Rattle.std.proofs.lemmas.Bool.Decides.{nat_tests}
+use Rattle.lis_open.proofs.Common.{◌≡◌, sym, ap, ◌∙◌, subst, ℕ, ◌+◌, ◌≤◌, nat_le, true, Some, List, length, map, slice_get, sum, IsTrue, arith, ◌⊎◌, refl, ap₂, inl, inr, ◌*◌, ◌==◌, Bool, false, [], ◌∷◌, ◌++◌, take, drop, Result, Ok, Err, if◌then◌else◌, eq-eqb, ne_eqb, ◌<◌, le-leb, drop-drop, Contains, leb-true, list_all, among_from_contains, contains_from_among, filed_rec, flat_map, slot, property_slots, axiom_slots, file_slots, row_slots, bitmap_start, bytes_told, file_told, state_of, is_large, both_ways, Filed, rec_at, are_distinct, Dict, FileRecord, SpellsSuper, Pair, data_start, State, description, WellFormed, Metadata, AreSound, blocks_told, Tells, Meaning, part, Torn, Always, IsSettled, Leaves, part-torn, part-put, block, Keeps, Spreads, Limits, image_blocks, Stored, IsSound, and_from, has_number, all_among, File, IsWritten, put, always_settled, leaves_then, leaves_weaken, replayed, recovered, ⊎_map, word_of, is_some, nat_lt, cond, ◌/◌, ◌&&◌}
 use Rattle.lis_store.specs.Stands.{Stands}
 use Rattle.std.proofs.Math.Path.{fun_ext}
 use Rattle.lis_content.proofs.Indexes.{small_size, small_blocks, small_content}
 use Rattle.lis_fields.proofs.Parts.{file_upgraded, file_respelled, record_tests}
-use Rattle.lis_fields.proofs.Supers.{with_version, upgraded_in_range, upgraded_stored, super_torn, super_upgraded}
+use Rattle.lis_fields.proofs.Supers.{with_version, upgraded_in_range, super_torn, super_upgraded}
 use Rattle.lis_fields.specs.Layouts.{file_bytes, is_record}
 use Rattle.lis_fields.specs.declared.slots.FileSlot.{FileSlot}
 use Rattle.lis_fields.specs.declared.slots.FileSlot.TheVariants.{Used}
-use Rattle.lis_kept.proofs.InArea.{first_limit}
+use Rattle.lis_kept.proofs.InArea.{first_limit, early_rows, early_sets}
 use Rattle.lis_kept.proofs.Formed.{record_parts}
 use Rattle.lis_kept.specs.Metadata.{record_at}
 use Rattle.lis_laws.proofs.Counts.{all_weaker}
 use Rattle.lis_model.specs.State.{blocks_needed, blocks_taken}
-use Rattle.lis_model.specs.Ranges.{are_in_range}
-use Rattle.lis_model.proofs.Stored.{stored_parts, stored_records, stored_descriptions}
-use Rattle.lis_kept.specs.Areas.{Area, held_in}
-use Rattle.lis_kept.specs.Areas.Area.{Properties, Axioms, Files, Rows, Bitmap}
+use Rattle.lis_model.specs.Ranges.{are_in_range, is_version}
+use Rattle.lis_model.proofs.Ranges.{own_version, few_parts, early_descriptions}
+use Rattle.lis_kept.specs.Areas.{Area, held_in, row_count, set_count, set_slots}
+use Rattle.lis_kept.specs.Areas.Area.{Properties, Axioms, Files, Rows, Sets, Bitmap}
 use Rattle.lis_kept.specs.Sound.{is_sound_record, IsSoundAxiom}
 use Rattle.lis_kept.proofs.Filing.{map_all}
 use Rattle.lis_store.proofs.Elsewhere.{written_there}
@@ -53,9 +54,21 @@ metadata_in version k = record k { limits = record k.limits { version = version 
 pub state_own : (s : State) → s.limits.version ≡ 1 → state_in 1 s ≡ s
 state_own s one = ap (λ version. state_in version s) (sym one)
 
--- an image that is not of version 2 is of version 1
-pub first_version : (limits : Limits) → IsTrue (are_in_range limits) → (limits.version ≡ 2 → ⊥) → limits.version ≡ 1
-first_version limits range none = elim ((stored_parts limits range).version) [ inl one ↦ one | inr two ↦ absurd (none two) ]
+-- one of version 1 becomes one of version 2
+upgraded_first : (s : State) → s.limits.version ≡ 1 → upgraded s ≡ state_in 2 s
+upgraded_first s one = ap (λ version. state_in (max 2 version) s) one
+
+-- an image that is not of version 1 is of a later one
+later_version : (limits : Limits) → IsTrue (are_in_range limits) → (limits.version ≡ 1 → ⊥) → 2 ≤ limits.version
+later_version limits range none = by limits.version (own_version limits range) none
+  where
+    by : (n : ℕ) → is_version n ≡ true → (n ≡ 1 → ⊥) → 2 ≤ n
+    by n is none = grind (arith, nat_tests)
+
+-- and it stays what it is
+upgraded_later : (s : State) → IsTrue (are_in_range s.limits) → (s.limits.version ≡ 1 → ⊥) → upgraded s ≡ s
+upgraded_later s range none =
+    let same : max 2 s.limits.version ≡ s.limits.version = omega (arith, later_version s.limits range none) in ap (λ version. state_in version s) same
 
 -- ---- the state, which has no large file
 -- no file has more than this many bytes
@@ -83,12 +96,18 @@ formed_upgraded s one formed =
     assumption (upgraded_in_range s.limits one formed.limits, longer s.files short, few)
 
 -- ---- the parts of an image are where they were
-module _ (version : ℕ) (limits : Limits) (range : IsTrue (are_in_range limits)) (later : IsTrue (are_in_range (with_version version limits))) where
+module _ (version : ℕ) (limits : Limits) (range : IsTrue (are_in_range limits)) (early : (limits.version == 3) ≡ false) (later : IsTrue (are_in_range (with_version version limits))) (other : (version == 3) ≡ false) where
   records_stay : record_blocks (with_version version limits) ≡ record_blocks limits
-  records_stay = stored_records (with_version version limits) later ∙ sym (stored_records limits range)
+  records_stay = (few_parts (with_version version limits) later other).records ∙ sym (few_parts limits range early).records
 
   descriptions_stay : description_blocks (with_version version limits) ≡ description_blocks limits
-  descriptions_stay = stored_descriptions (with_version version limits) later ∙ sym (stored_descriptions limits range)
+  descriptions_stay = early_descriptions (with_version version limits) other ∙ sym (early_descriptions limits early)
+
+  rows_stay : row_count (with_version version limits) ≡ row_count limits
+  rows_stay = early_rows (with_version version limits) other ∙ (ap (λ n. 4096 / (limits.files / 8) * n) descriptions_stay ∙ sym (early_rows limits early))
+
+  no_set : (n : ℕ) → n < set_count (with_version version limits) → ⊥
+  no_set n lt = omega (arith, lt, early_sets (with_version version limits) other)
 
   start_stays : data_start (with_version version limits) ≡ data_start limits
   start_stays = omega (arith, records_stay, descriptions_stay)
@@ -105,8 +124,14 @@ module _ (version : ℕ) (limits : Limits) (range : IsTrue (are_in_range limits)
       let same : files_start (with_version version limits) ≡ files_start limits = omega (arith, records_stay) in ap (λ start. slot (record (file_slots limits) { first = start }) at n) same
   slots_stay Rows at n =
       let same : descriptions_start (with_version version limits) ≡ descriptions_start limits = omega (arith, records_stay) in ap (λ start. slot (record (row_slots limits) { first = start }) at n) same
+  slots_stay Sets at n =
+      let same : descriptions_start (with_version version limits) ≡ descriptions_start limits = omega (arith, records_stay) in ap (λ start. slot (record (set_slots limits) { first = start }) at n) same
   slots_stay Bitmap at n =
       let same : bitmap_start (with_version version limits) ≡ bitmap_start limits = omega (arith, records_stay, descriptions_stay) in ap (λ start. at (start + n)) same
+
+-- version 1 is an early one
+early_first : (limits : Limits) → limits.version ≡ 1 → (limits.version == 3) ≡ false
+early_first limits one = ap (λ version. version == 3) one
 
 -- ---- what memory keeps
 record_upgraded : (limits : Limits) (dict : Dict) (blocks : ℕ) (rec : FileRecord) → limits.version ≡ 1 → IsTrue (is_sound_record limits dict blocks rec)
@@ -121,10 +146,10 @@ pub sound_upgraded : (k : Metadata) → k.limits.version ≡ 1 → AreSound k �
 sound_upgraded k one sound = assumption (later, axioms, records, marks)
   where
     later : IsTrue (are_in_range (with_version 2 k.limits))
-    later = upgraded_stored k.limits sound.range
+    later = upgraded_in_range k.limits one sound.range
 
     marks : data_start (with_version 2 k.limits) ≤ length k.marks
-    marks = omega (arith, start_stays 2 k.limits sound.range later, sound.marks)
+    marks = omega (arith, start_stays 2 k.limits sound.range (early_first k.limits one) later refl, sound.marks)
 
     axioms : (slot left right : ℕ) → slice_get k.axioms slot ≡ Some (Pair left right) → IsSoundAxiom (metadata_in 2 k) slot left right
     axioms slot left right is = assumption (sound.axioms slot left right is)
@@ -133,7 +158,7 @@ sound_upgraded k one sound = assumption (later, axioms, records, marks)
     records slot rec is = record_upgraded k.limits k.dict k.limits.blocks rec one (sound.records slot rec is)
 
 -- ---- what memory represents and has written, if all home blocks are the same and the super block has the version
-module _ (version : ℕ) (k : Metadata) (at there : ℕ → List ℕ) (sound : AreSound k) (one : k.limits.version ≡ 1) (later : IsTrue (are_in_range (with_version version k.limits))) (same : (n : ℕ) → properties_start k.limits ≤ n → there n ≡ at n) where
+module _ (version : ℕ) (k : Metadata) (at there : ℕ → List ℕ) (sound : AreSound k) (one : k.limits.version ≡ 1) (later : IsTrue (are_in_range (with_version version k.limits))) (other : (version == 3) ≡ false) (same : (n : ℕ) → properties_start k.limits ≤ n → there n ≡ at n) where
   abbrev limits : Limits
   limits = k.limits
 
@@ -152,7 +177,7 @@ module _ (version : ℕ) (k : Metadata) (at there : ℕ → List ℕ) (sound : A
       ∙ sym (small_blocks limits.version (data_start limits) f.rec.blocks f.rec.size at (small f m))
 
   data_same : ◌≡◌ {A = ℕ → List ℕ} (λ b. there (data_start others + b)) (λ b. at (data_start limits + b))
-  data_same = fun_ext (λ b. ap (λ start. there (start + b)) (start_stays version limits sound.range later) ∙ same (data_start limits + b) (omega arith))
+  data_same = fun_ext (λ b. ap (λ start. there (start + b)) (start_stays version limits sound.range (early_first limits one) later other) ∙ same (data_start limits + b) (omega arith))
 
   bytes_same : (f : Filed) → Contains k.catalog.entries f → bytes_told others there f.rec ≡ bytes_told limits at f.rec
   bytes_same f m =
@@ -191,12 +216,14 @@ module _ (version : ℕ) (k : Metadata) (at there : ℕ → List ℕ) (sound : A
   pub written_in : ((slot : FileSlot) → file_bytes k.limits.version slot ≡ file_bytes version slot) → IsWritten k at → IsWritten (metadata_in version k) there
   written_in alike written =
       let all = written_there k at there sound.range (λ n low lt. same n low) written in
-      let stays = slots_stay version limits sound.range later in
+      let early = early_first limits one in
+      let stays = slots_stay version limits sound.range early later other in
       elim [
         | Properties ↦ λ n lt. stays Properties there n ∙ all Properties n lt
         | Axioms ↦ λ n lt. stays Axioms there n ∙ all Axioms n lt
         | Files ↦ λ n lt. stays Files there n ∙ (all Files n lt ∙ alike (record_at k.catalog n))
-        | Rows ↦ λ n lt. stays Rows there n ∙ all Rows n lt
+        | Rows ↦ λ n lt. stays Rows there n ∙ all Rows n (omega (arith, lt, rows_stay version limits sound.range early later other))
+        | Sets ↦ λ n lt. absurd (no_set version limits sound.range early later other n lt)
         | Bitmap ↦ λ n lt. stays Bitmap there n ∙ all Bitmap n lt
       ]
 
@@ -248,22 +275,23 @@ module _ (k : Stored) (m : Meaning) (s : State) (sound : IsSound k) (fits : Stor
     behind = drop-take 25 4071 image ∙ (ap (take 4071) torn.after ∙ sym (drop-take 25 4071 m.bytes))
 
     -- it represents the state in the version of its super block
-    stands_in : (version : ℕ) → ((slot : FileSlot) → file_bytes 1 slot ≡ file_bytes version slot) → SpellsSuper (record s.limits { version = version }) (block 0 image) → AreSound (metadata_in version k.metadata) → WellFormed (state_in version s) → Stands image (state_in version s)
-    stands_in version alike super sound_then formed =
+    stands_in : (version : ℕ) → (version == 3) ≡ false → ((slot : FileSlot) → file_bytes 1 slot ≡ file_bytes version slot) → SpellsSuper (record s.limits { version = version }) (block 0 image) → AreSound (metadata_in version k.metadata) → WellFormed (state_in version s) → Stands image (state_in version s)
+    stands_in version other alike super sound_then formed =
         let later = sound_then.range in
         change_stands (record k { metadata = metadata_in version k.metadata }) k.journal.layout (λ n. block n image) (state_in version s) sound_then sound.free sound.pairs
-        (tells_in version k.metadata fits.kept (λ n. block n image) sound.metadata kept_one later same s super formed fits.tells)
-        (written_in version k.metadata fits.kept (λ n. block n image) sound.metadata kept_one later same (λ slot. ap (λ v. file_bytes v slot) kept_one ∙ alike slot) fits.written)
-        (same_layout sound.image ∙ layout_stays version k.metadata.limits sound.metadata.range later) image (shut_stands k.journal.layout image (shut_torn 24 1 m.bytes image (omega arith) torn shut) long)
+        (tells_in version k.metadata fits.kept (λ n. block n image) sound.metadata kept_one later other same s super formed fits.tells)
+        (written_in version k.metadata fits.kept (λ n. block n image) sound.metadata kept_one later other same (λ slot. ap (λ v. file_bytes v slot) kept_one ∙ alike slot) fits.written)
+        (same_layout sound.image ∙ layout_stays version k.metadata.limits sound.metadata.range (early_first k.metadata.limits kept_one) later other) image (shut_stands k.journal.layout image (shut_torn 24 1 m.bytes image (omega arith) torn shut) long)
 
     stands_before : SpellsSuper s.limits (block 0 image) → Stands image s
     stands_before super =
         subst (Stands image) (state_own s one)
-        (stands_in 1 (λ slot. refl) (subst (λ version. SpellsSuper (record s.limits { version = version }) (block 0 image)) one super) (subst AreSound (ap (λ version. metadata_in version k.metadata) kept_one) sound.metadata)
+        (stands_in 1 refl (λ slot. refl) (subst (λ version. SpellsSuper (record s.limits { version = version }) (block 0 image)) one super) (subst AreSound (ap (λ version. metadata_in version k.metadata) kept_one) sound.metadata)
         (subst WellFormed (sym (state_own s one)) fits.tells.formed))
 
     pub stands_upgraded : SpellsSuper (record s.limits { version = 2 }) (block 0 image) → Stands image (upgraded s)
-    stands_upgraded super = stands_in 2 file_respelled super (sound_upgraded k.metadata kept_one sound.metadata) (formed_upgraded s one fits.tells.formed)
+    stands_upgraded super =
+        subst (Stands image) (sym (upgraded_first s one)) (stands_in 2 refl file_respelled super (sound_upgraded k.metadata kept_one sound.metadata) (formed_upgraded s one fits.tells.formed))
 
     pub torn_stands : Stands image s ⊎ Stands image (upgraded s)
     torn_stands =
@@ -310,18 +338,19 @@ module _ (old mid : Meaning) (k : Stored) (sound : IsSound k) (ended : OpenEnded
   abbrev after : List ℕ
   after = recovered (image_layout left.0) old.bytes
 
-  gate_left : {new : Meaning} (is_second : Bool) → (left.0.version == 2) ≡ is_second → IsSettled new (if is_second then after else put after 24 (2 ∷ [])) → GateLeft old new
-  gate_left {new} is_second is settled = (left.0, left.1, subst (λ b. IsSettled new (if b then after else put after 24 (2 ∷ []))) (sym is) settled)
+  gate_left : {new : Meaning} (is_first : Bool) → (left.0.version == 1) ≡ is_first → IsSettled new (if is_first then put after 24 (2 ∷ []) else after) → GateLeft old new
+  gate_left {new} is_first is settled = (left.0, left.1, subst (λ b. IsSettled new (if b then put after 24 (2 ∷ []) else after)) (sym is) settled)
 
-  -- what opening left of an image of version 2 stays
-  pub second_left : k.metadata.limits.version ≡ 2 → GateLeft old mid
-  second_left two = gate_left true (eq-eqb left.0.version 2 (version_told ∙ two)) left.2
+  -- what opening left of an image of a later version than 1 stays
+  pub later_left : (k.metadata.limits.version ≡ 1 → ⊥) → GateLeft old mid
+  later_left none = gate_left false (ne_eqb left.0.version 1 (λ one. none (sym version_told ∙ one))) left.2
 
-  -- in version 2 the state is what it becomes
-  pub second_stands : k.metadata.limits.version ≡ 2 → Always mid (λ image. Stands image (upgraded s))
-  second_stands two =
-      let same : s ≡ upgraded s = ap (λ version. state_in version s) (sym (ap (λ (l : Limits). l.version) limits_are) ∙ two) in
-      subst (λ (t : State). Always mid (λ image. Stands image t)) same (fitting_stands mid k s sound fits)
+  -- and the state is what it becomes
+  pub later_stands : (k.metadata.limits.version ≡ 1 → ⊥) → Always mid (λ image. Stands image (upgraded s))
+  later_stands none =
+      let range = subst (λ (l : Limits). IsTrue (are_in_range l)) limits_are sound.metadata.range in
+      let same = upgraded_later s range (λ one. none (ap (λ (l : Limits). l.version) limits_are ∙ one)) in
+      subst (λ (t : State). Always mid (λ image. Stands image t)) (sym same) (fitting_stands mid k s sound fits)
 
   module _ (one : k.metadata.limits.version ≡ 1) where
     state_one : s.limits.version ≡ 1
@@ -337,7 +366,7 @@ module _ (old mid : Meaning) (k : Stored) (sound : IsSound k) (ended : OpenEnded
 
     -- and in an image of version 1 the gate is put
     pub first_left : {new : Meaning} → IsSettled new (put mid.bytes 24 (2 ∷ [])) → GateLeft old new
-    first_left {new} written = search (rules, gate_left, version_told)
+    first_left {new} written = gate_left true (eq-eqb left.0.version 1 (version_told ∙ one)) (subst (λ bytes. IsSettled new (put bytes 24 (2 ∷ []))) left.2.reads written)
 
     -- at each moment the image represents the state as before, or in version 2
     gate_moments : {new : Meaning} → Spreads mid new (Torn 24 1) → Leaves mid new (λ image. Stands image s ⊎ Stands image (upgraded s))

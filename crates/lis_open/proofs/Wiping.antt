@@ -12,7 +12,6 @@ use Rattle.lis_open.specs.Makes.{AreZeros, first_byte, IsNameless, IsSpared, res
 use Rattle.lis_ports.proofs.Parts.{length-part, part-part, torn-put, length-put}
 use Rattle.lis_fields.proofs.Supers.{length_super, super_spells}
 use Rattle.lis_model.specs.State.{empty_state}
-use Rattle.lis_model.proofs.Stored.{stored_range}
 use Rattle.lis_store.specs.Stored.{empty_stored}
 use Rattle.lis_store.proofs.Empty.{zeros-part, empty_sound, tells_empty, written_empty, no_state}
 use Rattle.lis_store.proofs.Standing.{change_stands}
@@ -143,7 +142,7 @@ wiped_stands limits image range is first =
     let room : blocks ≤ blocks = omega arith in
     let sound = empty_sound limits blocks range room in
     let super : SpellsSuper limits (block 0 image) =
-    subst (λ bytes. SpellsSuper limits bytes) (sym (wiped_super limits image is first)) (super_spells limits (stored_range limits range)) in
+    subst (λ bytes. SpellsSuper limits bytes) (sym (wiped_super limits image is first)) (super_spells limits range) in
     change_stands (empty_stored limits blocks) (image_layout limits) (λ n. block n image) (empty_state limits) sound.metadata sound.free sound.pairs
     (tells_empty limits blocks image range is.blank super) (written_empty limits blocks image range is.blank) refl image
     (shut_stands (image_layout limits) image (ap (λ gate. slice_index gate 0 == 1) is.blank.gates) is.blank.long)

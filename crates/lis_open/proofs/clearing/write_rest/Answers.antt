@@ -1,11 +1,7 @@
 use Rattle.lis_open.proofs.Common.{◌≡◌, ◌∙◌, length, ap, arith, on_ok_weaker, Torn, put}
 use Rattle.lis_journal.proofs.Spreading.{spreads_torn}
-use Rattle.lis_model.proofs.Stored.{stored_range}
 use Rattle.lis_open.proofs.Wiping.{torn_wider, rest_is, length-rest}
 use Rattle.lis_open.proofs.clearing.write_rest.Goals as goal
-
-pub write_super-requires-clause-range : goal.write_super-requires-clause-range
-write_super-requires-clause-range g c = stored_range c.args.limits.now c.requires.range
 
 pub returns-clause-spreads : goal.returns-clause-spreads
 returns-clause-spreads g c = λ honest.

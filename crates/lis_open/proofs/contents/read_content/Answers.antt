@@ -6,13 +6,13 @@ use Rattle.lis_kept.proofs.Image.{same_homes, same_blocks}
 use Rattle.lis_open.proofs.contents.read_content.Goals as goal
 
 pub resize-requires : goal.resize-requires
-resize-requires g c = size_of_form c.args.limits.now c.args.rec.now c.requires.readable.range c.requires.form c.rec.view_is
+resize-requires g c = size_of_form c.args.limits.now c.args.rec.now c.requires.form c.rec.view_is
 
 pub split_at-requires : goal.split_at-requires
 split_at-requires g c = omega (arith, c.div_ceil-count.ensures, ap (λ (r : FileRecord). r.size) c.rec.view_is, c.requires.count)
 
 pub read_front-requires-clause-few : goal.read_front-requires-clause-few
-read_front-requires-clause-few g c = omega (arith, c.resize.ensures, size_of_form c.args.limits.now c.args.rec.now c.requires.readable.range c.requires.form c.rec.view_is)
+read_front-requires-clause-few g c = omega (arith, c.resize.ensures, size_of_form c.args.limits.now c.args.rec.now c.requires.form c.rec.view_is)
 
 pub read_front-requires-clause-count : goal.read_front-requires-clause-count
 read_front-requires-clause-count g c = omega (arith, c.split_at.ensures.front_len, c.div_ceil-count.ensures, c.resize.ensures)

@@ -11,7 +11,7 @@ pub gather-requires : goal.gather-requires
 gather-requires c =
     let props = c.args.taxonomy.now.props in
     let below = subst (λ ns. list_all (λ n. nat_lt n props) ns ≡ _) (sym (c.as_slice.ensures.value ∙ ap (λ (r : FileRecord). r.tags) c.rec.view_is)) c.requires.below in
-    all_weaker (λ n. nat_lt n props) (λ n. nat_lt n 8192) c.as_slice.result.now (λ n m lt. lt-ltb n 8192 (omega (arith, ltb-true n props lt, c.requires.props, c.requires.are.few))) below
+    all_weaker (λ n. nat_lt n props) (λ n. nat_lt n 1048576) c.as_slice.result.now (λ n m lt. lt-ltb n 1048576 (omega (arith, ltb-true n props lt, c.requires.props, c.requires.are.few))) below
 
 pub returns-then-not-gather_derived : goal.returns-then-not-gather_derived
 returns-then-not-gather_derived c =

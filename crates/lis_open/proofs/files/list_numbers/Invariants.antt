@@ -5,7 +5,7 @@ use Rattle.lis_taxonomy.specs.Search.{is_found}
 use Rattle.lis_open.proofs.files.list_numbers.Given as goal
 
 abbrev pub invariant-loop-number : goal.invariant-loop-number
-invariant-loop-number l = (l.numbers.items ++ numbers_from 8192 l.start (is_found l.search) ≡ numbers_where 8192 (is_found l.search)) × (length l.numbers.items ≤ 128)
+invariant-loop-number l = (l.numbers.items ++ numbers_from 1048576 l.start (is_found l.search) ≡ numbers_where 1048576 (is_found l.search)) × (length l.numbers.items ≤ 128)
 
 abbrev pub decreases-loop-number : goal.decreases-loop-number
-decreases-loop-number l = 8192 - l.start
+decreases-loop-number l = 1048576 - l.start

@@ -12,7 +12,7 @@ returns-then-not-are_free-clause-found g c = λ kept fits.
     not_own c.args.limits.now kept c.args.map.now c.args.rec.now c.as_slice.result.now (c.as_slice.ensures.value ∙ ap (λ (r : FileRecord). r.blocks) c.rec.view_is) (sym c.are_free.ensures ∙ c.if-not-are_free.true)
 
 pub read_blocks-requires-clause-few : goal.read_blocks-requires-clause-few
-read_blocks-requires-clause-few g c = omega (arith, c.laid_by.ensures.size, size_of_form c.args.limits.now c.args.rec.now c.requires.readable.range c.requires.form refl)
+read_blocks-requires-clause-few g c = omega (arith, c.laid_by.ensures.size, size_of_form c.args.limits.now c.args.rec.now c.requires.form refl)
 
 pub read_blocks-requires-clause-count : goal.read_blocks-requires-clause-count
 read_blocks-requires-clause-count g c =

@@ -1,9 +1,5 @@
 use Rattle.lis_open.proofs.Common.{Err, ap, ◌∙◌, err_from_is_err_and}
-use Rattle.lis_model.proofs.Stored.{stored_range}
 use Rattle.lis_open.proofs.making.make.Goals as goal
-
-pub image_blocks-requires : goal.image_blocks-requires
-image_blocks-requires g c = stored_range c.args.limits.now c.requires.range
 
 pub returns-in_err-write_image-clause-spare : goal.returns-in_err-write_image-clause-spare
 returns-in_err-write_image-clause-spare g c = λ n honest is settled.

@@ -1,5 +1,5 @@
 use Rattle.std.proofs.Common.{IfOk, ap₂}
-use Rattle.lis_open.proofs.Common.{rules, refl, ◌≡◌, ◌⊎◌, ℕ, List, ◌∙◌, sym, ap, subst, Err, Result, false, arith, err_from_is_err_and, block, Held, Leaves, IsSettled, Stored, IsSound, recovered}
+use Rattle.lis_open.proofs.Common.{rules, refl, ◌≡◌, ◌⊎◌, ◌≤◌, ◌==◌, Bool, true, IsTrue, Limits, are_in_range, ℕ, List, ◌∙◌, sym, ap, subst, Err, Result, false, arith, err_from_is_err_and, block, Held, Leaves, IsSettled, Stored, IsSound, recovered}
 use Rattle.lis_journal.specs.declared.layout.Capacity.{Capacity}
 use Rattle.lis_journal.specs.Journal.{shape_of}
 use Rattle.lis_journal.specs.Recovery.{InRecovery, MountEnded}
@@ -11,24 +11,42 @@ use Rattle.lis_open.specs.declared.mounting.OpenFault.{OpenFault}
 use Rattle.lis_open.proofs.Opening.{one_fault, memory_opened, journal_cause, journal_enough, journal_opened, journal_moments, store_opened, store_moments}
 use Rattle.lis_open.specs.Opens.{journal_fault}
 use Rattle.lis_open.proofs.mounting.mount_image.Goals as goal
-use Rattle.lis_kept.specs.Image.{image_layout}
-use Rattle.lis_kept.proofs.Image.{stored_staged, stored_placed}
-use Rattle.lis_model.proofs.Stored.{stored_records, stored_bitmap}
+use Rattle.lis_kept.specs.Image.{image_layout, most_staged, most_placed}
+use Rattle.lis_kept.proofs.InArea.{few_files, some_properties}
+use Rattle.lis_kept.proofs.Image.{early_staged, third_staged, early_placed, third_placed}
+use Rattle.lis_model.specs.Image.{record_blocks}
+use Rattle.lis_model.proofs.Ranges.{few_parts, few_records, third_records}
+use Rattle.lis_journal.specs.Record.{record_len}
 use Rattle.lis_journal.specs.declared.layout.Layout.{Layout}
+
+-- a record of the most blocks has room
+record_fits : (limits : Limits) → IsTrue (are_in_range limits) → record_len (most_staged limits) ≤ record_blocks limits
+record_fits limits range = by (limits.version == 3) refl
+  where
+    by : (third : Bool) → (limits.version == 3) ≡ third → record_len (most_staged limits) ≤ record_blocks limits
+    by true third = omega (arith, third_staged limits third, third_records limits third, few_files limits range)
+    by false early = omega (arith, early_staged limits early, (few_parts limits range early).records)
+
+few_placed : (limits : Limits) → most_placed limits ≤ 65536
+few_placed limits = by (limits.version == 3) refl
+  where
+    by : (third : Bool) → (limits.version == 3) ≡ third → most_placed limits ≤ 65536
+    by true third = omega (arith, third_placed limits third)
+    by false early = omega (arith, early_placed limits early)
 
 pub mount-requires-clause-blocks : goal.mount-requires-clause-blocks
 mount-requires-clause-blocks g c =
-    omega (arith, ap (λ (l : Layout). l.records) c.image_layout-layout.ensures, ap (λ (l : Layout). l.blocks) c.image_layout-layout.ensures, stored_bitmap c.args.limits c.requires.range)
+    omega (arith, ap (λ (l : Layout). l.records) c.image_layout-layout.ensures, ap (λ (l : Layout). l.blocks) c.image_layout-layout.ensures, some_properties c.args.limits c.requires.range)
 
 pub mount-requires-clause-few : goal.mount-requires-clause-few
-mount-requires-clause-few g c = omega (arith, ap (λ (l : Layout). l.records) c.image_layout-layout.ensures, stored_records c.args.limits c.requires.range)
+mount-requires-clause-few g c = omega (arith, ap (λ (l : Layout). l.records) c.image_layout-layout.ensures, few_records c.args.limits c.requires.range)
 
 pub mount-requires-clause-fits : goal.mount-requires-clause-fits
 mount-requires-clause-fits g c =
-    omega (arith, ap (λ (l : Layout). l.records) c.image_layout-layout.ensures, ap (λ (k : Capacity). k.staged) c.image_capacity.ensures, stored_records c.args.limits c.requires.range, stored_staged c.args.limits c.requires.range)
+    omega (arith, ap (λ (l : Layout). l.records) c.image_layout-layout.ensures, ap (λ (k : Capacity). k.staged) c.image_capacity.ensures, record_fits c.args.limits c.requires.range)
 
 pub mount-requires-clause-placed : goal.mount-requires-clause-placed
-mount-requires-clause-placed g c = omega (arith, ap (λ (k : Capacity). k.placed) c.image_capacity.ensures, stored_placed c.args.limits c.requires.range)
+mount-requires-clause-placed g c = omega (arith, ap (λ (k : Capacity). k.placed) c.image_capacity.ensures, few_placed c.args.limits)
 
 pub mount-requires-clause-long : goal.mount-requires-clause-long
 mount-requires-clause-long g c = omega (arith, ap (λ (l : Layout). l.blocks) c.image_layout-layout.ensures, c.requires.long)

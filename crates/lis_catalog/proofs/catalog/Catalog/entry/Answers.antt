@@ -13,7 +13,7 @@ returns-in_err-record_at c =
     let read = c.in_ok-slot.ensures.lookup in
     let at = slice_get_read c.deref.result.now (length c.deref.result.now) c.args.k slot refl (ltb-true c.args.k (length c.deref.result.now) (sym read.0)) read.1 in
     let none : get_or i.records.items slot None ≡ None = ap (λ (rs : Records). get_or rs slot None) (sym c.deref-2.ensures.value) ∙ c.in_err-record_at.ensures in
-    absurd (recorded i.files _ i.records.items i.order.items c.self.invariant c.args.k slot (rw c.deref.ensures.value at at) none)
+    absurd (recorded i.files _ i.records.items i.order.items c.self.invariant.held c.args.k slot (rw c.deref.ensures.value at at) none)
 
 pub returns : goal.returns
 returns c =
@@ -23,4 +23,4 @@ returns c =
     let at = slice_get_read c.deref.result.now (length c.deref.result.now) c.args.k slot refl (ltb-true c.args.k (length c.deref.result.now) (sym read.0)) read.1 in
     let there : get_or i.records.items slot None ≡ Some c.in_ok-record_at.field-0.now = ap (λ (rs : Records). get_or rs slot None) (sym c.deref-2.ensures.value) ∙ c.in_ok-record_at.ensures in
     sym (ap (λ (s : Catalog). slice_get s.entries c.args.k) c.self.view_is)
-    ∙ entry_there i.files _ i.records.items i.order.items c.self.invariant c.args.k slot (rw c.deref.ensures.value at at) c.in_ok-record_at.field-0.now there
+    ∙ entry_there i.files _ i.records.items i.order.items c.self.invariant.held c.args.k slot (rw c.deref.ensures.value at at) c.in_ok-record_at.field-0.now there

@@ -15,7 +15,7 @@ returns-clause-place c =
     let filed = filed_in c.as_slice-records.result.now in
     let order = c.deref.result.now in
     let asked = c.binary_search_by.ensures.position (λ slot. word_cmp (filed slot).rec.name name) (always_returns_same _ _ _ (λ a r f called. search rules)) in
-    let rising : IsStrictlySortedBy filed_cmp (map filed order) = rw (c.deref.ensures.value, c.as_slice-records.ensures.value) (sorted i.files _ i.records.items i.order.items c.self.invariant) in
+    let rising : IsStrictlySortedBy filed_cmp (map filed order) = rw (c.deref.ensures.value, c.as_slice-records.ensures.value) (sorted i.files _ i.records.items i.order.items c.self.invariant.held) in
     let told = searched filed name order c.binary_search_by.result rising c.binary_search_by.ensures.bound asked in
     subst (λ (s : Catalog). MatchResult c.binary_search_by.result (λ k. FoundAt name k s.entries) (λ k. PlaceFor name k s.entries)) c.self.view_is
     (rw (c.deref.ensures.value, c.as_slice-records.ensures.value) at told)

@@ -10,7 +10,7 @@ returns-in-Ok c =
     let k = c.in-Ok.place in
     let n = c.index.result.now in
     let at : n ≡ get_or i.order.items k n = c.index.ensures in
-    let number = number_there i.props _ i.holders.items i.order.items c.self.invariant c.args.word.now n k (rw (← c.self.view_is) at c.in-Ok.ensures.bound) (rw (← c.self.view_is) at c.in-Ok.ensures.found) at in
+    let number = number_there i.props _ i.holders.items i.order.items c.self.invariant.sound c.args.word.now n k (rw (← c.self.view_is) at c.in-Ok.ensures.bound) (rw (← c.self.view_is) at c.in-Ok.ensures.found) at in
     sym number ∙ ap (λ (t : Dict). number_of t c.args.word.now) c.self.view_is
 
 pub returns-in-Err : goal.returns-in-Err

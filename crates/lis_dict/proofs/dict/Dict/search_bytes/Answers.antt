@@ -22,7 +22,7 @@ returns-clause-found c =
     let bytes = c.args.bytes.now in
     let entry = entry_in c.as_slice-holders.result.now in
     let asked = c.binary_search_by.ensures.position (λ n. word_cmp (entry n).0 bytes) (always_returns_same _ _ _ (λ a r f called. search rules)) in
-    let ordered : Ordered (map entry c.deref.result.now) = rw (c.deref.ensures.value, c.as_slice-holders.ensures.value) (ordered_from_rising (map (entry_in i.holders.items) i.order.items) c.self.invariant.dict.rising) in
+    let ordered : Ordered (map entry c.deref.result.now) = rw (c.deref.ensures.value, c.as_slice-holders.ensures.value) (ordered_from_rising (map (entry_in i.holders.items) i.order.items) c.self.invariant.sound.dict.rising) in
     let told = searched_found (map entry c.deref.result.now) ordered bytes c.binary_search_by.result (searched entry c.deref.result.now bytes c.binary_search_by.result c.binary_search_by.ensures.bound asked) in
     subst (λ (d : Dict). IfOk c.binary_search_by.result (HoldsAt (λ (e : DictEntry). e.0 ≡ bytes) d.entries)) c.self.view_is
     (rw (c.deref.ensures.value, c.as_slice-holders.ensures.value) at told)
@@ -33,7 +33,7 @@ returns-clause-absent c =
     let bytes = c.args.bytes.now in
     let entry = entry_in c.as_slice-holders.result.now in
     let asked = c.binary_search_by.ensures.position (λ n. word_cmp (entry n).0 bytes) (always_returns_same _ _ _ (λ a r f called. search rules)) in
-    let ordered : Ordered (map entry c.deref.result.now) = rw (c.deref.ensures.value, c.as_slice-holders.ensures.value) (ordered_from_rising (map (entry_in i.holders.items) i.order.items) c.self.invariant.dict.rising) in
+    let ordered : Ordered (map entry c.deref.result.now) = rw (c.deref.ensures.value, c.as_slice-holders.ensures.value) (ordered_from_rising (map (entry_in i.holders.items) i.order.items) c.self.invariant.sound.dict.rising) in
     let told = searched_absent (map entry c.deref.result.now) ordered bytes c.binary_search_by.result (searched entry c.deref.result.now bytes c.binary_search_by.result c.binary_search_by.ensures.bound asked) in
     subst (λ (d : Dict). IfErr c.binary_search_by.result (IsGap d.entries bytes)) c.self.view_is
     (rw (c.deref.ensures.value, c.as_slice-holders.ensures.value) at told)
