@@ -1,6 +1,6 @@
 -- A blank image has no words and no files: it represents the empty state.
 use Rattle.std.proofs.Common.{rules}
-use Rattle.lis_store.proofs.Common.{◌≡◌, refl, sym, ap, ◌∙◌, ℕ, zero, suc, ◌+◌, ◌-◌, ◌*◌, ◌/◌, ◌<◌, ◌≤◌, ◌≢◌, false, List, [], get_or, take, replicate, slice_get, slice_index, Some, IsTrue, arith, ◌==◌, insert_key, Contains, length-replicate, get_or-replicate, slice_get_within, get_or_from_slice_get, among_from_contains, part, block, is_taken, Dict, IsDict, has, SpellsSuper, AxiomSlot, FreeAxiom, Pair, Limits, are_in_range, bitmap_start, data_start, State, pair_cmp, Metadata, IsWritten, axiom_slots, Properties, Axioms, Bitmap, AreSound, Tells, among_slots, list_any, Meaning, both_ways, Files, Rows, Sets, true, KeepsInUse, is_linked}
+use Rattle.lis_store.proofs.Common.{◌≡◌, refl, sym, ap, ◌∙◌, ℕ, zero, suc, ◌+◌, ◌-◌, ◌*◌, ◌/◌, ◌<◌, ◌≤◌, ◌≢◌, false, List, [], get_or, take, replicate, slice_get, slice_index, Some, IsTrue, arith, ◌==◌, insert_key, Contains, length-replicate, get_or-replicate, slice_get_within, get_or_from_slice_get, among_from_contains, part, block, is_taken, Dict, IsDict, has, SpellsSuper, AxiomSlot, FreeAxiom, Pair, Limits, are_in_range, bitmap_start, data_start, State, pair_cmp, Metadata, IsWritten, axiom_slots, Properties, Axioms, Bitmap, AreSound, Tells, among_slots, list_any, Meaning, both_ways, Files, Rows, Sets, true, KeepsInUse, is_linked, subst, IsStrictlyIncreasing}
 use Rattle.std.specs.List.{fold}
 use Rattle.std.proofs.lemmas.List.{drop-replicate, take-replicate, take-take}
 use Rattle.lis_slots.specs.Slots.{Slots, home, place, slot}
@@ -21,6 +21,7 @@ use Rattle.lis_store.specs.Blank.{IsBlank}
 use Rattle.lis_store.specs.Stands.{Stands}
 use Rattle.lis_store.specs.Stored.{IsSound, empty_metadata, empty_stored, StoreFits}
 use Rattle.lis_store.proofs.Cleaned.{none_set}
+use Rattle.lis_store.proofs.Differing.{none_rising}
 use Rattle.lis_ports.specs.Runs.{IsSettled}
 use Rattle.lis_journal.proofs.Fitting.{settled_fits}
 
@@ -72,7 +73,7 @@ module _ (limits : Limits) (blocks : ℕ) where
         rows = refl;
         files = length-replicate {A = List ℕ} limits.files [];
         named = λ n at some had. absurd (both_ways (has metadata.ext n at) (no_set n at) had);
-        rising = λ at lt. search (rules, get_or-replicate);
+        rising = λ at lt. subst IsStrictlyIncreasing (sym (empty_set at)) none_rising;
         settled = refl;
         marks = search (rules, length-replicate);
       }

@@ -1,6 +1,6 @@
 -- What is in use after a file is removed whose slot is still described, and which words may then be removed.
 use Rattle.std.proofs.Common.{rules}
-use Rattle.lis_store.proofs.Common.{◌≡◌, ◌⊎◌, refl, sym, ap, ◌∙◌, subst, inl, inr, ℕ, ◌<◌, ◌==◌, not, ◌&&◌, Bool, true, false, if◌then◌else◌, [], ◌∷◌, length, set, Option, Some, None, is_some, IsSome, slice_get, Pair, arith, length-set, get_or-set_same, IsStrictlyIncreasing, cases_eq, ne_eqb, is_taken, stays_marked, word_of, slot_of, rec_at, has, numbers_at, FileRecord, same_word, same_word_decides, Metadata, block_of, AreSound, state_of, is_used, MayForget, emptied, among_slots, left_out, used_flagged, used_had, both_ways, eq-eqb, has_number, Files, used_left}
+use Rattle.lis_store.proofs.Common.{◌≡◌, ◌⊎◌, refl, sym, ap, ◌∙◌, subst, inl, inr, ℕ, ◌<◌, ◌==◌, not, ◌&&◌, Bool, true, false, if◌then◌else◌, [], ◌∷◌, length, set, Option, Some, None, is_some, IsSome, slice_get, Pair, arith, length-set, get_or-set_same, get_or-set_other, IsStrictlyIncreasing, cases_eq, ne_eqb, is_taken, stays_marked, word_of, slot_of, rec_at, has, numbers_at, FileRecord, same_word, same_word_decides, Metadata, block_of, AreSound, state_of, is_used, MayForget, emptied, among_slots, left_out, used_flagged, used_had, both_ways, eq-eqb, has_number, Files, used_left}
 use Rattle.std.proofs.lemmas.Map.Entries.{option_filter}
 use Rattle.lis_catalog.specs.Catalog.{without_slot}
 use Rattle.lis_catalog.proofs.Laws.{rec_at-without_slot, slot_of-without_slot, slot_of-rec_at, filtered_none, filtered_one}
@@ -14,6 +14,7 @@ use Rattle.lis_store.specs.Removing.{Vacates}
 use Rattle.lis_store.specs.Drafts.{Draft}
 use Rattle.lis_store.specs.Replacing.{MayReplace}
 use Rattle.lis_store.specs.ReplacingIn.{AreInForm}
+use Rattle.lis_store.proofs.Differing.{none_rising}
 use Rattle.lis_store.proofs.HeadsUsed.{IsUsedFor, used_for, head_used}
 use Rattle.lis_store.proofs.HeadsUsed.IsUsedFor.{Flagged, HadAt, NamedLeft}
 
@@ -29,10 +30,20 @@ rec_there o none = search (rules, both_ways)
 
 -- memory stays sound if a slot without a file is not described
 pub sound_emptied : (k : Metadata) (slot : ℕ) → AreSound k → AreSound (emptied k slot)
-sound_emptied k slot sound = assumption (axioms, length-set k.ext.sets slot [] ∙ sound.files, named)
+sound_emptied k slot sound = assumption (axioms, length-set k.ext.sets slot [] ∙ sound.files, rising, named)
   where
     axioms : (at left right : ℕ) → slice_get k.axioms at ≡ Some (Pair left right) → IsSoundAxiom (emptied k slot) at left right
     axioms at left right is = assumption (sound.axioms at left right is)
+
+    rising : (at : ℕ) → at < length (set k.ext.sets slot []) → IsStrictlyIncreasing (numbers_at (left_out k.ext slot) at)
+    rising at lt = by (cases_eq at slot)
+      where
+        by : (at ≡ slot) ⊎ (at ≡ slot → ⊥) → IsStrictlyIncreasing (numbers_at (left_out k.ext slot) at)
+        by (inl same) =
+            let emptied_so : numbers_at (left_out k.ext slot) at ≡ [] =
+            ap (numbers_at (left_out k.ext slot)) same ∙ get_or-set_same k.ext.sets slot [] [] (omega (arith, lt, same, length-set k.ext.sets slot [])) in
+            subst IsStrictlyIncreasing (sym emptied_so) none_rising
+        by (inr differ) = subst IsStrictlyIncreasing (sym (get_or-set_other k.ext.sets slot at [] [] differ)) (sound.rising at (omega (arith, lt, length-set k.ext.sets slot [])))
 
     other_slot : (n at : ℕ) → has (left_out k.ext slot) n at ≡ true → at ≡ slot → ⊥
     other_slot n at h same = both_ways (has (left_out k.ext slot) n at) (ap (has (left_out k.ext slot) n) same ∙ none_here k.ext slot n) h
