@@ -157,9 +157,12 @@ module _ (limits : Limits) (words : Words) (axioms : Axioms) (files : Files) (ma
   named_filed : (n slot : ℕ) → IsSome (rec_at files.catalog slot) → has files.ext n slot ≡ true → IsSome (word_of words.dict n)
   named_filed n slot file h = named n slot h
 
+  rising : (slot : ℕ) → slot < length files.ext.sets → IsStrictlyIncreasing (numbers_at files.ext slot)
+  rising slot lt = slot_rises limits words axioms files read.files_are slot
+
   module _ (range : IsTrue (are_in_range limits)) (clean : AreNoMarks limits marks) where
     pub metadata_sound : AreSound k
-    metadata_sound = assumption (read.words_are.are.long ∙ read.words_are.props, headed, sound_axiom, named_filed)
+    metadata_sound = assumption (read.words_are.are.long ∙ read.words_are.props, headed, sound_axiom, named_filed, rising)
 
     pub metadata_held : AreHeld k axioms.taxonomy
     metadata_held = assumption metadata_sound

@@ -1,6 +1,6 @@
 -- Rows of the left sides of axioms and of their heads, and the words that are not in use.
 use Rattle.std.proofs.Common.{rules}
-use Rattle.std.proofs.Common.{min, ◌↔◌, ◌%◌}
+use Rattle.std.proofs.Common.{min, ◌↔◌}
 use Rattle.lis_open.proofs.Common.{◌≡◌, ◌∙◌, inl, inr, sym, ap, ap₂, ℕ, ◌+◌, ◌*◌, ◌/◌, ◌<◌, ◌≤◌, ◌==◌, Bool, are_in_range, image_blocks, false, List, length, IsTrue, arith, subst, refl, if◌then◌else◌, ◌&&◌, ◌||◌, not, true, cond, Some, None, is_some, list_all, bits_bytes, has, Limits, slot, Row, row_slots, both_ways, list_any, or-false, HasShape, get, with_row, is_taken, Dict, IsDict, word_of, AxiomSlot, Metadata, is_head_by, is_had, is_left_of, is_left_head_of, is_used, Rows}
 use Rattle.lis_fields.specs.Layouts.{zeros, set_bytes}
 use Rattle.std.proofs.lemmas.Bool.Decides.{nat_tests}
@@ -49,13 +49,9 @@ few_rows limits range early = subst (λ n. 4096 / (limits.files / 8) * n ≤ 200
         each_files_limit (λ files. 4096 / (files / 8) * ((limits.props * files + 32767) / 32768) ≤ 2000000) limits.files (early_limits limits range early).files
         (omega (arith, few)) (omega (arith, few)) (omega (arith, few)) (omega (arith, few)) (omega (arith, few)) (omega (arith, few)) (omega (arith, few))
 
--- if there is a row, it is not wide, and its width divides a block
+-- if there is a row, it is not wide
 pub row_narrow : (limits : Limits) (p : ℕ) → IsTrue (are_in_range limits) → p < (row_slots limits).count → limits.files ≤ 4096
 row_narrow limits p range lt = (few_parts limits range (some_are_early limits p lt)).files
-
-pub row_divides : (limits : Limits) (p : ℕ) → IsTrue (are_in_range limits) → p < (row_slots limits).count → 4096 % (limits.files / 8) ≡ 0
-row_divides limits p range lt =
-    each_files_limit (λ files. 4096 % (files / 8) ≡ 0) limits.files (early_limits limits range (some_are_early limits p lt)).files refl refl refl refl refl refl refl
 
 -- each has its place before the bitmap
 pub row_within : (limits : Limits) (p width first blocks : ℕ) → IsTrue (are_in_range limits) → p < (row_slots limits).count → width ≡ limits.files / 8 → first ≡ descriptions_start limits → blocks ≡ image_blocks limits

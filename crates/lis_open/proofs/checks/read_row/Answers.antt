@@ -1,4 +1,4 @@
-use Rattle.lis_open.proofs.Common.{rules, arith, length-take-le}
+use Rattle.lis_open.proofs.Common.{rules, ◌∙◌, sym, arith, length-take-le}
 use Rattle.lis_open.proofs.BlocksRead.{few_blocks}
 use Rattle.lis_open.proofs.Lefts.{row_read, row_within, row_narrow}
 use Rattle.lis_open.proofs.checks.read_row.Goals as goal
@@ -14,6 +14,15 @@ read_slot-requires-clause-within g c =
 
 pub read_slot-requires-clause-few : goal.read_slot-requires-clause-few
 read_slot-requires-clause-few g c = few_blocks c.args.limits.now _ c.requires.readable.range (same_blocks c.requires.readable.image)
+
+pub slice_bounds-row-end : goal.slice_bounds-row-end
+slice_bounds-row-end g c = omega (arith, row_narrow c.args.limits.now c.args.p c.requires.readable.range c.requires.p)
+
+pub slice_bounds-row-end-2 : goal.slice_bounds-row-end-2
+slice_bounds-row-end-2 g c = sym (length-take-le _ _ (omega (arith, row_narrow c.args.limits.now c.args.p c.requires.readable.range c.requires.p)))
+
+pub is_row-requires-clause-width : goal.is_row-requires-clause-width
+is_row-requires-clause-width g c = c.in_ok-read_slot.ensures.len ∙ length-take-le _ _ (omega (arith, row_narrow c.args.limits.now c.args.p c.requires.readable.range c.requires.p))
 
 pub returns-clause-read : goal.returns-clause-read
 returns-clause-read g c = λ kept fits recalls.
