@@ -25,7 +25,7 @@ use Rattle.lis_open.specs.ReadFiles.{in_catalog, AreFiles, FilesEnded}
 use Rattle.lis_open.specs.ReadAll.{metadata_in, AreNoMarks, is_stray, IsFirstStray, IsRowSpelled, IsFirstRow, row_place, RowDiffers, IsSetSpelled, IsFirstSet, SetsChecked, AreSlotsRead, SlotsEnded, AreRead, HasStray, IsFirstBit, BitmapDiffers, PartsEnded}
 use Rattle.lis_open.proofs.Once.{rising_map}
 use Rattle.lis_slots.specs.Slots.{slot}
-use Rattle.lis_ext.specs.Numbers.{numbers_where}
+use Rattle.lis_ext.specs.Numbers.{has_number, numbers_where}
 use Rattle.lis_ext.proofs.Numbers.{numbers_of, numbers_same}
 use Rattle.lis_fields.specs.Layouts.{set_bytes}
 use Rattle.lis_model.specs.declared.spot.Spot.TheVariants.{Set}
