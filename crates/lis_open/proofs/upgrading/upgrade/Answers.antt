@@ -1,8 +1,8 @@
-use Rattle.lis_open.proofs.Common.{rules, ◌∙◌, sym, ap, subst, arith, ends_then, err_from_is_err_and, Limits}
+use Rattle.lis_open.proofs.Common.{rules, ◌≡◌, ◌∙◌, sym, ap, subst, arith, ends_then, err_from_is_err_and, Limits}
 use Rattle.lis_ports.specs.Calls.{Rose}
 use Rattle.lis_ports.proofs.Moments.{run_then}
 use Rattle.lis_open.specs.Opens.{OpenUnwritten}
-use Rattle.lis_open.proofs.Upgraded.{first_version, fault_of, disk_alone, handed_on, not_refused, opening_moments, second_left, second_stands, first_left, upgrade_moments, upgrade_past, first_stands}
+use Rattle.lis_open.proofs.Upgraded.{fault_of, disk_alone, handed_on, not_refused, opening_moments, later_left, later_stands, first_left, upgrade_moments, upgrade_past, first_stands}
 use Rattle.lis_open.proofs.upgrading.upgrade.Goals as goal
 use Rattle.lis_kept.proofs.Image.{same_blocks}
 
@@ -27,22 +27,22 @@ returns-in_err-store g c =
       past = λ limits honest super settled. m.past limits honest super (λ is. settled (handed_on p.1 p.2 is));
     }
 
--- it is of version 2 already
-pub returns-then-version-eq2 : goal.returns-then-version-eq2
-returns-then-version-eq2 g c =
+-- it is of a later version than 1 already
+pub returns-else-version-eq1 : goal.returns-else-version-eq1
+returns-else-version-eq1 g c =
     let old = g.D.Disk.meaning c.args.disk.now in
     let mid = g.D.Disk.meaning c.mount.new.disk in
     let m = c.in_ok-store.ensures in
     let sound = c.limits-version.ensures.sound in
-    let two = ap (λ (l : Limits). l.version) (sym c.limits-version.ensures.value) ∙ c.if-version-eq2.true in
+    let none = λ (one : c.in_ok-store.store.metadata.limits.version ≡ 1). c.if-version-eq1.false (ap (λ (l : Limits). l.version) c.limits-version.ensures.value ∙ one) in
     record {
       run = search rules;
       cause = search rules;
       first_fault = search rules;
-      ended = λ honest. let ended = m.ended honest in (ended.0, (ended.1.0, ended.1.1, second_stands old mid c.in_ok-store.store sound ended (m.left honest) two));
+      ended = λ honest. let ended = m.ended honest in (ended.0, (ended.1.0, ended.1.1, later_stands old mid c.in_ok-store.store sound ended (m.left honest) none));
       spot = search rules;
       moments = λ s honest stands. opening_moments s (m.same_state s honest stands);
-      left = λ honest. second_left old mid c.in_ok-store.store sound (m.ended honest) (m.left honest) two;
+      left = λ honest. later_left old mid c.in_ok-store.store sound (m.ended honest) (m.left honest) none;
       refused = λ honest none. m.any_moment honest;
       unbegun = λ s fault is. absurd (cc);
       unwritten = λ fault is. absurd (cc);
@@ -61,7 +61,7 @@ returns-in_err-write_gate g c =
     let mid = g.D.Disk.meaning c.mount.new.disk in
     let m = c.in_ok-store.ensures in
     let sound = c.limits-version.ensures.sound in
-    let one = first_version c.in_ok-store.store.metadata.limits sound.metadata.range (λ two. c.if-version-eq2.false (ap (λ (l : Limits). l.version) c.limits-version.ensures.value ∙ two)) in
+    let one = ap (λ (l : Limits). l.version) (sym c.limits-version.ensures.value) ∙ c.if-version-eq1.true in
     let p = err_from_is_err_and c.from_residual-in_err-write_gate.result c.from_residual-in_err-write_gate.ensures.1 in
     record {
       run = run_then m.run c.write_gate.ensures.disk.run;
@@ -82,13 +82,13 @@ returns-in_err-write_gate g c =
           (c.write_gate.ensures.spreads (c.mount.ensures.run.honest ∙ honest));
     }
 
-pub returns : goal.returns
-returns g c =
+pub returns-in_ok-write_gate : goal.returns-in_ok-write_gate
+returns-in_ok-write_gate g c =
     let old = g.D.Disk.meaning c.args.disk.now in
     let mid = g.D.Disk.meaning c.mount.new.disk in
     let m = c.in_ok-store.ensures in
     let sound = c.limits-version.ensures.sound in
-    let one = first_version c.in_ok-store.store.metadata.limits sound.metadata.range (λ two. c.if-version-eq2.false (ap (λ (l : Limits). l.version) c.limits-version.ensures.value ∙ two)) in
+    let one = ap (λ (l : Limits). l.version) (sym c.limits-version.ensures.value) ∙ c.if-version-eq1.true in
     record {
       run = run_then m.run c.write_gate.ensures.disk.run;
       cause = c.in_ok-write_gate.ensures.disk.cause.stays ∙ m.cause;
