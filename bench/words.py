@@ -64,7 +64,7 @@ NO_LIMITS = (("65", "64", "8"), ("8192", "64", "8"), ("64", "63", "8"), ("64", "
 NO_NAMES = (("", "f"), (".", "f"), ("..", "f"), ("a/b", "f"), ("a b", "f"), ("a" * 61, "f"))
 WORDS = (
     Word("try", NO_IMAGE, LIMITS, SESSION, (b"mkdir music\n", b"create song music\n", b"ls\n"), b"ok\nok\nf song\nok\n", wrong=NO_LIMITS),
-    Word("make", MADE, LIMITS, looks=b"s files 0\ns known 0\ns axioms 0\ns free 8\nok\n", wrong=(*NO_LIMITS, (*LIMITS, "v3"), ("131072", "64", "8", "v3"))),
+    Word("make", MADE, LIMITS, looks=b"s files 0\ns known 0\ns axioms 0\ns free 8\nok\n", wrong=NO_LIMITS),
     Word("run", CHANGED, (), SESSION, (b"mkdir jazz\n", b"axiom jazz music\n", b"add tune 5 jazz\nhello\n", b"rm song\n", b"ls\n"),
          b"ok\nok\nok\nok\nd ext:\nd music\nok\n", look=b"ls\ncat tune\n", looks=b"d ext:\nd music\nok\nb 5\nhello\nok\n"),
     Word("load", CHANGED, (), SESSION, (b"mkdir jazz\n", b"axiom jazz music\n", b"add tune 5 jazz\nhello\n", b"rm song\n", b"ls\n"),

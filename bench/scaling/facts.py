@@ -7,10 +7,11 @@ import os
 from collections.abc import Iterable, Sequence
 from typing import NamedTuple
 
-from lisfs import constants, derived
+from lisfs import constants, derived, limits
 from lisfs.folder.changes import MARKER, folder_words
 from lisfs.folder.entries import Entries, Entry
 from lisfs.folder.walk import content
+from lisfs.limits import blocks_of
 from lisfs.progress import Line
 from lisfs.words import head_of
 
@@ -36,8 +37,8 @@ class Version(NamedTuple):
         return [str(self.files), str(self.words), str(self.blocks), self.word]
 
 
-# A later version is one more row.
-VERSIONS = {"v2": Version("v2", constants.MAX_FILES, constants.MAX_PROPS, constants.MAX_BLOCKS, constants.MAX_LARGE_FILE)}
+# By the word. A later version is one more row of `lisfs.limits`.
+VERSIONS = {word: Version(word, *row[2:]) for row in limits.VERSIONS for word in row.make}
 
 
 class Fact(NamedTuple):
@@ -92,12 +93,6 @@ def fact_of(entry: Entry, largest: int) -> Fact:
     words = {OWN_WORD, *entry.words, *derived.derived_words(name, data)[:constants.MAX_DERIVED]}
     heads = {head for head in map(head_of, words) if head}
     return Fact(name, entry.found.path, os.path.join(*entry.found.parts), len(data), entry.date, frozenset(words | heads))
-
-
-def blocks_of(size: int) -> int:
-    """The data blocks of a content, with its index block if it has one."""
-    blocks = -(-size // constants.BLOCK_LEN)
-    return blocks + (blocks > constants.SLOT_BLOCKS)
 
 
 def fitting(facts: Iterable[Fact], version: Version, most: int) -> Room:

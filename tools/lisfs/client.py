@@ -45,7 +45,7 @@ import threading
 from collections.abc import Callable, Collection, Iterable, Iterator, Mapping, Sequence
 from typing import IO, TYPE_CHECKING, Literal, NamedTuple, Protocol, TypeAlias, overload
 
-from lisfs.constants import MAX_DIGITS, MAX_LARGE_FILE, MAX_LINE, ROOMS
+from lisfs.constants import MAX_DIGITS, MAX_LINE, ROOMS, V3_MAX_FILE
 from lisfs.words import is_word
 
 if TYPE_CHECKING:
@@ -71,7 +71,7 @@ NO_WORD = re.compile(rb"[ \t\r\n]")
 # The form of a view. Few tools look at one, so it is not compiled here.
 VIEW = rb"(?:\+[^\n]*\n|@[1-9][0-9]* [1-9][0-9]*\n)*(?:!\n)?"
 BODY_LINE = re.compile(rb"([a-z]) (.*)")
-CONTENT_LINE = re.compile(rb"b (0|[1-9][0-9]{0,6})")
+CONTENT_LINE = re.compile(rb"b (0|[1-9][0-9]{0,7})")
 REFUSAL_LINE = re.compile(rb"no ([0-9]{2}) (.+)")
 # The line of a tag, and each prefix of it.
 TAG_LINE = re.compile(rb"(@([0-7-]\n?)?)?")
@@ -200,8 +200,8 @@ def item(words: Sequence[bytes], payload: bytes | None = None, longest: int = MA
         return Item(line + b"\n", b"")
     if payload is None or size is None:
         raise NotSent(f"`{line.decode(errors='backslashreplace')}` {'takes no' if size is None else 'needs a'} payload")
-    if int(size) != len(payload) or len(payload) > MAX_LARGE_FILE:
-        raise NotSent(f"the line says {int(size)} bytes, and the payload has {len(payload)}; it has at most {MAX_LARGE_FILE}")
+    if int(size) != len(payload) or len(payload) > V3_MAX_FILE:
+        raise NotSent(f"the line says {int(size)} bytes, and the payload has {len(payload)}; it has at most {V3_MAX_FILE}")
     return Item(line + b"\n", payload + b"\n")
 
 
@@ -210,11 +210,11 @@ class Items:
     measured without a CR at its end, and passed on with it: the program drops one CR itself, so if one were dropped before, it would judge another
     line. What is kept of a command has the same reply as all of it: the first bytes of a line that is too long, the smallest payload that is too
     large instead of a larger one, and one byte of what follows a payload instead of a line feed. For a caller that runs longer lines itself, lines of
-    up to `whole` bytes are passed on whole."""
+    up to `whole` bytes are passed on whole. `most` is how many bytes a file may have."""
 
-    def __init__(self, longest: int = MAX_LINE, whole: int = 0) -> None:
+    def __init__(self, longest: int = MAX_LINE, whole: int = 0, most: int = V3_MAX_FILE) -> None:
         # What was not taken, without the line that a payload follows, which is kept separately.
-        self._longest, self._whole, self._given = longest, max(longest, whole), bytearray()
+        self._longest, self._whole, self._most, self._given = longest, max(longest, whole), most, bytearray()
         self._line: bytes | None = None
         # How many bytes of this payload are kept, how many are still to be dropped, and the bytes that replace these.
         self._kept, self._dropped, self._in_place = 0, 0, b""
@@ -250,10 +250,10 @@ class Items:
 
     def _await_payload(self, line: bytes, count: int) -> None:
         self._line, self._kept, self._dropped, self._in_place = line, count, 0, b""
-        if count > MAX_LARGE_FILE:
+        if count > self._most:
             begin, end = [word.span() for word in WORD.finditer(line.removesuffix(b"\r"))][2]
-            self._line = line[:begin] + b"%d" % (MAX_LARGE_FILE + 1) + line[end:]
-            self._kept, self._dropped, self._in_place = 0, count, bytes(MAX_LARGE_FILE + 1)
+            self._line = line[:begin] + b"%d" % (self._most + 1) + line[end:]
+            self._kept, self._dropped, self._in_place = 0, count, bytes(self._most + 1)
 
     def _with_payload(self, line: bytes) -> Item | None:
         dropped = min(self._dropped, len(self._given))
@@ -295,7 +295,7 @@ class Replies:
 
     def _content(self, begin: int, size: int) -> Tagged | None:
         end = begin + size + len(b"\nok\n")
-        if size > MAX_LARGE_FILE:
+        if size > V3_MAX_FILE:
             raise NotAReply(f"a content of {size} bytes")
         if len(self.shown) < end:
             return None

@@ -10,10 +10,20 @@ MAX_BLOCKS = 32_768
 MAX_FILE = 65_536
 # The most bytes of a file in version 2.
 MAX_LARGE_FILE = 1_048_576
+# The most files in version 3.
+V3_MAX_FILES = 262_144
+# The most words in version 3.
+V3_MAX_PROPS = 1_048_576
+# The most data blocks in version 3.
+V3_MAX_BLOCKS = 16_777_216
+# The most bytes of a file in version 3, if the data blocks have room for them.
+V3_MAX_FILE = 67_108_864
 # Bytes of a block.
 BLOCK_LEN = 4_096
 # The most blocks of a content whose numbers are in the slot of its file. A larger one has index blocks.
 SLOT_BLOCKS = 16
+# The most numbers that an index block has. If each has four bytes, they fill it.
+NUMBERS_PER_INDEX = 1_024
 # A file that has bytes, and fewer than this, is small.
 SMALL_FILE = 1_024
 # A file that is not small, and has fewer bytes than this, is a medium one.
@@ -34,8 +44,20 @@ MAX_FORMULA = 1_024
 MAX_LINE = 1_024
 # The most bytes of an edited view.
 MAX_VIEW = 8_388_608
-# The most blocks of an image of version 1 or 2.
-MAX_IMAGE_BLOCKS = 34_771
+# Bits of a block.
+BLOCK_BITS = 32_768
+# Blocks that hold the journal's records in versions 1 and 2.
+RECORD_BLOCKS = 576
+# Blocks that hold the journal's records in version 3, besides one for each block of sets.
+V3_RECORD_BLOCKS = 1_088
+# How many words have their slots in one block.
+PROPERTIES_PER_BLOCK = 64
+# How many axioms have their slots in one block.
+AXIOMS_PER_BLOCK = 512
+# How many files have their slots in one block.
+FILES_PER_BLOCK = 16
+# How many files have their sets in one block, in version 3.
+SETS_PER_BLOCK = 8
 # The most digits of a count.
 MAX_DIGITS = 12
 # How many rooms there are.

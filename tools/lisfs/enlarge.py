@@ -1,10 +1,11 @@
 """Gives an image larger limits: fills a new image from a dump of it, compares the two, and lets the new one have its name.
 
-usage: tools/enlarge IMAGE [FILES PROPS BLOCKS]
+usage: tools/enlarge IMAGE [FILES PROPS BLOCKS [v2|v3]]
 
 Without numbers it doubles each limit of which the image uses more than half, or else the one of which it uses the largest part. The old image
-is kept as `IMAGE.before-enlarging`, or with a number after that, until you remove it. The new one has its owner and its permissions, and is of
-the same version. Limits may also be smaller than before, if they have room for all that the image holds.
+is kept as `IMAGE.before-enlarging`, or with a number after that, until you remove it. The new one has its owner and its permissions. It is of
+the same version, or of a later one if the limits need it or the last word asks for it: in version 2 a file may have 1,048,576 bytes, and in
+version 3 as many as its blocks have, up to 67,108,864. Limits may also be smaller than before, if they have room for all that the image holds.
 
 No other program may have the image open, so end its server first. If IMAGE is a link, the image that it leads to is enlarged. There must be
 room on the disk for a second image. If `enlarge` is stopped at any point, IMAGE is the old image or the new one, and whole; the next run removes
@@ -30,7 +31,7 @@ from lisfs.client import PROGRAM, Ended, Locked, NotAReply, Program, counts_in, 
 from lisfs.dumps import settled, times_of
 from lisfs.endings import quiet
 from lisfs.endings import cause_of as cause_of_end
-from lisfs.limits import LIMITS, Limits, Need, NoLimits, chosen, doubled, limits_of
+from lisfs.limits import LIMITS, VERSIONS, Limits, Need, NoLimits, chosen, doubled, limits_of
 from lisfs.making import KEPT, Aside, aside, is_open_elsewhere, kept_names, name_again
 from lisfs.own import sync_folder
 from lisfs.showing import write_line
@@ -135,15 +136,15 @@ def wait_for_others(old: int) -> None:
         time.sleep(PAUSE)
 
 
-def enlarge(image: str, numbers: Sequence[str], done: Done) -> None:
-    """Gives an image other limits, and notes it once it is so."""
+def enlarge(image: str, numbers: Sequence[str], done: Done, version: int = 1) -> None:
+    """Gives an image other limits, in this version at least, and notes it once it is so."""
     # A link stays one.
     path = os.path.realpath(image) if os.path.islink(image) else image
     found = os.stat(path)
     if not stat.S_ISREG(found.st_mode):
         raise Failed("no file: only an image in a file can be enlarged; a dump brings another one into a larger image (docs/guide/backup.md)")
     limits, used = looked_at(path)
-    wished = chosen(limits, numbers, used) if numbers else doubled(limits, used)
+    wished = chosen(limits, numbers, used, version) if numbers else doubled(limits, used)
     before = settled(path)
     with aside(path, 0o600) as new:
         fill(path, new.name, wished)
@@ -153,7 +154,8 @@ def enlarge(image: str, numbers: Sequence[str], done: Done) -> None:
             if times_of(path) != before:
                 raise Failed("another program has changed it meanwhile; run this again")
             with without_stops():
-                done.line = f"from {limits} to {wished}; the old image is {swap(path, new.name, old)} until you remove it"
+                other = f", of version {wished.version}" if wished.version != limits.version else ""
+                done.line = f"from {limits} to {wished}{other}; the old image is {swap(path, new.name, old)} until you remove it"
                 sync_folder(os.path.dirname(path))
                 wait_for_others(old)
 
@@ -192,8 +194,10 @@ def main() -> int:
     parser.add_argument("image")
     parser.add_argument("numbers", nargs="*")
     words = parser.parse_args()
-    if words.numbers and len(words.numbers) != len(LIMITS):
-        parser.error("FILES, PROPS and BLOCKS, or none of them")
+    # The version that the last word asks for.
+    version = next((row.number for row in VERSIONS if row.make == tuple(words.numbers[len(LIMITS):])), None)
+    if words.numbers and len(words.numbers) < len(LIMITS) or version is None:
+        parser.error("FILES, PROPS and BLOCKS, and then v2, v3 or nothing; or none of them")
     for number in STOPS:
         # A signal that is ignored, as by `nohup`, stays ignored.
         if signal.getsignal(number) == signal.SIG_DFL:
@@ -202,7 +206,7 @@ def main() -> int:
     try:
         if what := missing():
             raise Failed(what)
-        enlarge(words.image, words.numbers, done)
+        enlarge(words.image, words.numbers[:len(LIMITS)], done, version)
     except BrokenPipeError:
         raise
     except (Failed, NoLimits, Ended, NotAReply, OSError, KeyboardInterrupt, Stopped) as error:

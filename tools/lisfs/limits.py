@@ -9,12 +9,14 @@ from collections.abc import Callable, Mapping, Sequence
 from typing import Literal, NamedTuple, TypeAlias
 
 from lisfs.constants import (
-    BLOCK_LEN, MAX_BLOCKS, MAX_DIGITS, MAX_FILE, MAX_FILES, MAX_LARGE_FILE, MAX_PROPS, NO_AXIOM_ROOM, NO_FILE_ROOM, NO_PROPERTY_ROOM, NO_SPACE, SLOT_BLOCKS)
+    AXIOMS_PER_BLOCK, BLOCK_BITS, BLOCK_LEN, FILES_PER_BLOCK, MAX_BLOCKS, MAX_DIGITS, MAX_FILE, MAX_FILES, MAX_LARGE_FILE, MAX_PROPS, NO_AXIOM_ROOM,
+    NO_FILE_ROOM, NO_PROPERTY_ROOM, NO_SPACE, NUMBERS_PER_INDEX, PROPERTIES_PER_BLOCK, RECORD_BLOCKS, SETS_PER_BLOCK, SLOT_BLOCKS, V3_MAX_BLOCKS,
+    V3_MAX_FILE, V3_MAX_FILES, V3_MAX_PROPS, V3_RECORD_BLOCKS)
 
 # FILES and PROPS are at least this, and PROPS is a multiple of it.
 LEAST = 64
-# An index block has the numbers of at most this many blocks of a content.
-INDEXED = 1_024
+# How an image begins, and how many bytes have its limits.
+BEGIN, HEAD = b"LISFS-IM", 25
 # How much more room than a folder takes today an image has that is made for it.
 TIMES = 3
 # The limits of which an image can run out: the number of its axioms is that of its words.
@@ -41,8 +43,11 @@ class Version(NamedTuple):
 VERSIONS = (
     Version(1, (), MAX_FILES, MAX_PROPS, MAX_BLOCKS, MAX_FILE),
     Version(2, ("v2",), MAX_FILES, MAX_PROPS, MAX_BLOCKS, MAX_LARGE_FILE),
+    Version(3, ("v3",), V3_MAX_FILES, V3_MAX_PROPS, V3_MAX_BLOCKS, V3_MAX_FILE),
 )
 LARGEST = VERSIONS[-1]
+# From this version on the number of the version is in the super block, an image has sets instead of extension rows, and the blocks limit a file too.
+THIRD = 3
 
 
 def told(files: int, words: int, blocks: int) -> str:
@@ -71,7 +76,15 @@ class Limits(NamedTuple):
     @property
     def file_bytes(self) -> int:
         """The most bytes of a file."""
-        return self.most.file_bytes
+        return min(self.most.file_bytes, BLOCK_LEN * self.blocks) if self.version >= THIRD else self.most.file_bytes
+
+    @property
+    def image_bytes(self) -> int:
+        """How many bytes an image of these limits has (docs/IMAGE.md)."""
+        sets = self.files // SETS_PER_BLOCK
+        records, descriptions = (V3_RECORD_BLOCKS + sets, sets) if self.version >= THIRD else (RECORD_BLOCKS, over(self.words * self.files, BLOCK_BITS))
+        slots = self.words // PROPERTIES_PER_BLOCK + over(self.words, AXIOMS_PER_BLOCK) + self.files // FILES_PER_BLOCK
+        return BLOCK_LEN * (2 + records + slots + descriptions + over(self.blocks, BLOCK_BITS) + self.blocks)
 
     def make(self) -> list[str]:
         """The words after the image's path with which `make` makes such an image."""
@@ -110,17 +123,26 @@ class Beyond(NamedTuple):
 def limits_of(path: str) -> Limits:
     """The limits in the first block of an image, which the program has checked."""
     with open(path, "rb") as file:
-        head = file.read(25)
-    files, words, blocks = struct.unpack_from("<3I", head, 12)
-    # Only a version above 1 has a gate of its own.
-    version = next((row.number for row in VERSIONS[1:] if row.number == head[24]), 1)
+        return limits_in(file.read(HEAD), path)
+
+
+def limits_in(head: bytes, path: str) -> Limits:
+    """The limits in the first bytes of an image."""
+    number, files, words, blocks = struct.unpack_from("<4I", head, 8)
+    # Versions 1 and 2 have one number, and a gate.
+    version = number if number >= THIRD else 2 if head[24] == 2 else 1
     return Limits(files, words, blocks, version, path)
+
+
+def over(count: int, many: int) -> int:
+    """A quotient, rounded up."""
+    return -(-count // many)
 
 
 def blocks_of(size: int) -> int:
     """How many blocks a content of this many bytes takes: one with more than a slot has numbers for takes index blocks too."""
-    needed = -(-size // BLOCK_LEN)
-    return needed + -(-needed // INDEXED) if needed > SLOT_BLOCKS else needed
+    needed = over(size, BLOCK_LEN)
+    return needed + over(needed, NUMBERS_PER_INDEX) if needed > SLOT_BLOCKS else needed
 
 
 def beyond(need: Need) -> list[Beyond]:
@@ -129,12 +151,13 @@ def beyond(need: Need) -> list[Beyond]:
     return [Beyond(name, needed, most) for name, needed, most in of_all if needed > most]
 
 
-def smallest(need: Need) -> Limits | None:
-    """The smallest limits, in the smallest version, that have room for this; None if no image has."""
+def smallest(need: Need, least: int = 1) -> Limits | None:
+    """The smallest limits, in the smallest version from `least` on, that have room for this; None if no image has."""
     for row in VERSIONS:
-        if all(needed <= most for needed, most in zip(need, (row.files, row.words, row.blocks, row.file_bytes))):
+        if row.number >= least and all(needed <= most for needed, most in zip(need, (row.files, row.words, row.blocks, row.file_bytes))):
             files = 1 << (max(need.files, LEAST) - 1).bit_length()
-            return Limits(files, -(-max(need.words, LEAST) // LEAST) * LEAST, max(need.blocks, 1), row.number)
+            blocks = max(need.blocks, 1, over(need.largest, BLOCK_LEN) if row.number >= THIRD else 1)
+            return Limits(files, over(max(need.words, LEAST), LEAST) * LEAST, blocks, row.number)
     return None
 
 
@@ -149,14 +172,14 @@ def roomy(wanted: Need) -> Limits:
 
 def enlarged(limits: Limits, needed: Mapping[Limit, int]) -> Limits | None:
     """Limits with at least twice as much of what is full, and at least as much as is `needed` of it, which is 0 if nobody knows; the most that there
-    can be, if that is enough. None if no image has enough."""
+    can be, if that is enough. The version is that of the image, or a later one that has as much. None if no image has enough."""
     counts: dict[Limit, int] = {"files": limits.files, "words": limits.words, "blocks": limits.blocks}
     for name, count in needed.items():
         most = getattr(LARGEST, name)
         if counts[name] >= most:
             return None
         counts[name] = max(min(2 * counts[name], most), count)
-    found = smallest(Need(counts["files"], counts["words"], counts["blocks"], limits.file_bytes))
+    found = smallest(Need(counts["files"], counts["words"], counts["blocks"]), limits.version)
     return found and found._replace(image=limits.image)
 
 
@@ -174,16 +197,17 @@ def doubled(limits: Limits, used: Need) -> Limits:
     return found
 
 
-def chosen(limits: Limits, numbers: Sequence[str], used: Need) -> Limits:
-    """The limits of these numbers, for an image that has others and uses this much of them. Raises `NoLimits`."""
+def chosen(limits: Limits, numbers: Sequence[str], used: Need, least: int = 1) -> Limits:
+    """The limits of these numbers, for an image that has others and uses this much of them, in its version, in `least` or in a later one. Raises
+    `NoLimits`."""
     wrong = [f"{name} is {number!r}, and has to be {form}" for (name, is_one, form), number in zip(RANGES, numbers) if not is_one(number)]
     files, words, blocks = (int(number) if not wrong else 0 for number in numbers)
     few = [f"{getattr(used, name):,} {name} are used, and {count:,} are too few" for name, count in zip(LIMITS, (files, words, blocks))
            if count < getattr(used, name)]
-    found = smallest(Need(files, words, blocks, limits.file_bytes))
+    found = smallest(Need(files, words, blocks), max(limits.version, least))
     if wrong or few or found is None:
         raise NoLimits("; ".join(wrong or few))
-    if (files, words, blocks) == (limits.files, limits.words, limits.blocks):
+    if found[:4] == limits[:4]:
         raise NoLimits("it has these limits")
     return found._replace(image=limits.image)
 

@@ -8,12 +8,13 @@ from typing import NamedTuple
 
 from lisfs import client
 from lisfs.client import PROGRAM, Ended, Program, Refused
-from lisfs.constants import BLOCK_LEN, MAX_LARGE_FILE
+from lisfs.constants import V3_MAX_FILE
+from lisfs.limits import blocks_of
 from lisfs.opening import joined, waiting
 from lisfs.words import is_file_name
 
 # The limits of an image that can hold any file, with room for new bytes besides the old ones.
-LIMITS = ("64", "64", str(4 * MAX_LARGE_FILE // BLOCK_LEN), "v2")
+LIMITS = ("64", "64", str(2 * blocks_of(V3_MAX_FILE)), "v3")
 
 
 class Changed(Exception):

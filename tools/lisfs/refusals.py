@@ -12,7 +12,7 @@ from lisfs.constants import (
     ALREADY_DECLARED, AXIOM_THERE, BAD_FORMULA, BAD_LINE, BUILT_IN, BUILT_IN_HEADS, CUT_PAYLOAD, CYCLE, IN_USE, LARGE_DESCRIPTION, LARGE_FILE,
     LARGE_FORMULA, LONG_LINE, MAX_ASSIGNED, MAX_DESCRIPTION, MAX_FILE, MAX_FORMULA, MAX_LARGE_FILE, MAX_LINE, MAX_NODES, NAME_TAKEN, NO_AXIOM,
     NO_AXIOM_ROOM, NO_FILE_HERE, NO_FILE_ROOM, NO_PROPERTY_ROOM, NO_SPACE, NOT_A_PLACE, NOT_ASSIGNABLE, NOT_DECLARED, NOT_IN_FORM, OTHER_MARKS,
-    PAYLOAD_END, TOO_MANY_ASSIGNED, UNKNOWN_PROPERTY)
+    PAYLOAD_END, TOO_MANY_ASSIGNED, UNKNOWN_PROPERTY, V3_MAX_FILE)
 from lisfs.formulas import Instead, joined, words_in
 from lisfs.words import NAME_FORM, head_of, is_file_name, is_plain, is_test, is_word
 
@@ -87,7 +87,7 @@ REFUSALS = {
         f"Some file would have more than {MAX_DESCRIPTION} words, those that others entail counted.", errno.EMLINK,
         "more words than a file may have"),
     LARGE_FILE: Refusal(
-        f"the file has too many bytes: at most {MAX_FILE:,}, or {MAX_LARGE_FILE:,} in an image of version 2",
+        f"the file has too many bytes: at most {MAX_FILE:,}, {MAX_LARGE_FILE:,} in an image of version 2, or {V3_MAX_FILE:,} in one of version 3",
         "The file is too large for this image.", errno.EFBIG, "it is too large for this image"),
     NO_FILE_ROOM: Refusal(
         "the image has no room for another file", "The image is full: it can hold no more files.", errno.ENOSPC, "no room for more files"),

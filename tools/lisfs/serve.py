@@ -49,6 +49,7 @@ from lisfs.constants import CUT_PAYLOAD, REFUSAL_WORDS, ROOMS
 from lisfs.dumps import STOPS, NotADump, dumped, opened_by, started
 from lisfs.endings import quiet
 from lisfs.history import OK, PLACED, History
+from lisfs.limits import limits_of
 from lisfs.opening import waiting
 from lisfs.showing import harmless
 
@@ -116,8 +117,8 @@ class Signals:
 class Client:
     """A connection, with the input that did not run yet, and what must be sent. No other client ever has its number."""
 
-    def __init__(self, connection: socket.socket, number: int) -> None:
-        self.connection, self.items, self.unsent, self.has_ended = connection, Items(ROOM_LINE), memoryview(b""), False
+    def __init__(self, connection: socket.socket, number: int, most: int) -> None:
+        self.connection, self.items, self.unsent, self.has_ended = connection, Items(ROOM_LINE, most=most), memoryview(b""), False
         self.number = number
 
     def send(self) -> bool:
@@ -167,9 +168,11 @@ Watched: TypeAlias = int | HasFileno
 
 
 class Server:
-    def __init__(self, program: Program, listener: socket.socket, history: History) -> None:
+    """`most` is how many bytes a file of the image may have: of more it keeps none."""
+
+    def __init__(self, program: Program, listener: socket.socket, history: History, most: int) -> None:
         self.program, self.listener, self.history, self.is_ending, self.has_more = program, listener, history, False, False
-        self.clients = 0
+        self.clients, self.most = 0, most
         self.rooms = [Room(number) for number in range(ROOMS)]
         # In the order of the commands.
         self.awaited: collections.deque[Awaited] = collections.deque()
@@ -218,7 +221,7 @@ class Server:
         if free:
             room = min(free, key=lambda room: room.is_awaiting)
             self.clients += 1
-            room.client, room.is_fresh, room.held = Client(connection, self.clients), False, None
+            room.client, room.is_fresh, room.held = Client(connection, self.clients, self.most), False, None
             self.go_on(room)
         else:
             with contextlib.suppress(OSError):
@@ -479,7 +482,7 @@ def serve(image: str, path: str, signals: Signals) -> None:
     program, history = opened(image, signals)
     with program:
         with listening(path, signals) as listener:
-            server = Server(program, listener, history)
+            server = Server(program, listener, history, limits_of(image).file_bytes)
             server.watch(signals, READ, functools.partial(server.end, signals))
             try:
                 server.serve()

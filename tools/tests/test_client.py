@@ -10,7 +10,7 @@ import pytest
 
 from lisfs import client
 from lisfs.client import CONTENT, LINES, ROOM_LINE, Ended, Items, Locked, NotAReply, NotSent, Program, Refused, item, shown
-from lisfs.constants import MAX_LARGE_FILE
+from lisfs.constants import MAX_LARGE_FILE, V3_MAX_FILE
 from support import images, with_package
 from support.replies import CONTENTS, DONE, told_by
 from support.waiting import children, is_full, rest, unread, until
@@ -107,7 +107,7 @@ def test_replies():
 
 @pytest.mark.parametrize("shown", (
     b"what\n", b"o\n", b"d\n", b"D x\n", b"OK\n", b"\n", b"ok \n", b"d x\nno 01 bad line\n", b"d x\nb 1\ny\nok\n", b"b 1\nxyok\n",
-    b"b 1\nx\nno\n", b"b 1\nx\nd x\nok\n", b"b 01\nx\nok\n", b"b x\nok\n", b"b 1048577\n", b"no 1 bad line\n", b"no 01\n"))
+    b"b 1\nx\nno\n", b"b 1\nx\nd x\nok\n", b"b 01\nx\nok\n", b"b x\nok\n", b"b 67108865\n", b"b 100000000\n", b"no 1 bad line\n", b"no 01\n"))
 def test_no_reply(shown):
     with made_up() as program:
         assert told_by(program.ask, b"show", in_hexadecimal(shown)) == NotAReply, f"no reply: {shown[:30]}"
@@ -146,7 +146,7 @@ NOT_SENT = (((), None), ((b"",), None), ((b"mkdir", b""), None), ((b"mkdir", b"a
             ((b"mkdir", b"a\r"), None), ((b"mkdir a",), None), ((b"x" * 1025,), None), ((b"add", b"a", b"1"), None), ((b"write", b"a", b"0"), None),
             ((b"ls",), b""), ((b"add", b"a"), b"x"), ((b"add", b"a", b"x"), b"x"), ((b"add", b"a", b"0" * 13), b""), ((b"add", b"a", b"1"), b""),
             ((b"add", b"a", b"1"), b"xy"), ((b"add", b"a", b"1") + (LONG,) * 17, b"x"),
-            ((b"add", b"a", b"1048577"), b"x" * (MAX_LARGE_FILE + 1)), ((b"add", b"a", b"999999999999"), b"x"))
+            ((b"add", b"a", b"67108865"), bytes(V3_MAX_FILE + 1)), ((b"add", b"a", b"999999999999"), b"x"))
 
 
 @pytest.mark.parametrize("number", range(len(NOT_SENT)))
@@ -157,7 +157,7 @@ def test_not_sent(deaf, number):
 
 
 def test_not_sent_by_a_command(deaf):
-    assert told_by(deaf.add, b"a", b"x" * (MAX_LARGE_FILE + 1)) == NotSent, "a content that is too large"
+    assert told_by(deaf.add, b"a", bytes(V3_MAX_FILE + 1)) == NotSent, "a content that is too large"
     assert told_by(deaf.write, b"a 0", b"x") == NotSent, "a file of two words"
     assert told_by(deaf.receive) == RuntimeError, "nothing waits"
 
@@ -415,12 +415,12 @@ INPUTS = (
 @pytest.mark.parametrize("piece", (None, 1, 7), ids=("whole", "bytes", "pieces"))
 @pytest.mark.parametrize("number", range(len(INPUTS)))
 def test_items(number, piece):
-    """Inputs cut into commands, given whole, in bytes, and in pieces."""
+    """Inputs cut into commands, given whole, in bytes, and in pieces. A file may have as many bytes as in version 2."""
     given, wanted, end = INPUTS[number]
     size = piece or len(given) + 1
     if len(given) > 1_000 and size < 65_536:
         size = size * 9_999
-    cut, got = Items(20), []
+    cut, got = Items(20, most=MAX_LARGE_FILE), []
     for at in range(0, len(given), size):
         cut.feed(given[at:at + size])
         while taken := cut.take():

@@ -6,7 +6,7 @@ import pytest
 
 import runs
 from lisfs.client import CONTENT, LINES, PROGRAM, Ended, Locked, Program, Refused, held
-from lisfs.constants import MAX_LARGE_FILE
+from lisfs.constants import MAX_LARGE_FILE, V3_MAX_FILE
 from support import images, inputs
 from support.replies import CONTENTS, DONE, told_by
 from support.waiting import unread, until
@@ -164,6 +164,15 @@ def test_ahead_of_the_program(image):
         assert [program.receive() for _ in range(64)] == [DONE] * 64, "files made ahead"
         lengths = {len(program.receive().body) for _ in range(10_000)}
         assert lengths == {64}, "10,000 commands ahead"
+
+
+@pytest.mark.limits("64", "64", "16400", "v3")
+def test_the_largest_file(image):
+    content = os.urandom(V3_MAX_FILE)
+    with images.session(image) as program:
+        assert told_by(program.add, b"x", content) == DONE
+        assert told_by(program.cat, b"x") == (CONTENT, content)
+        assert told_by(program.write, b"x", content[:-1]) == (Refused, 24, "no space"), "the old blocks are not free"
 
 
 @pytest.mark.limits("64", "64", "300", "v2")

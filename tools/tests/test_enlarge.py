@@ -16,7 +16,9 @@ import pytest
 from lisfs import enlarge, making
 from lisfs import limits as limits_module
 from lisfs.client import PROGRAM
-from lisfs.limits import limits_of
+from lisfs.constants import NO_FILE_ROOM
+from lisfs.limits import VERSIONS, limits_of
+from lisfs.limits import told as told_limits
 from support import images, tool
 from support.images import content, dump, session, usage, written
 from support.peers import Served
@@ -82,31 +84,65 @@ def test_doubles():
     assert sorted(os.listdir()) == ["image", KEPT, KEPT + "-2", KEPT + "-3"], "each old one has a name"
 
 
-@pytest.mark.parametrize("version", ((), ("v2",)))
+@pytest.mark.parametrize("version", (1, 2, 3))
 def test_numbers(version):
-    make("image", ("64", "64", "4", *version), SESSION)
+    make("image", ("64", "64", "4", *VERSIONS[version - 1].make), SESSION)
     before = dump()
-    assert run("image", "4096", "8192", "32768")[0] == 0, "the most"
-    assert (limits(), dump()) == ((4_096, 8_192, 32_768, 2 if version else 1), before), "with its version"
+    assert run("image", "4096", "8192", "32768")[0] == 0, "the most before version 3"
+    assert (limits(), dump()) == ((4_096, 8_192, 32_768, version), before), "with its version"
     assert run("image", "0064", "64", "4") == (0, "enlarge: image: from 4,096 files, 8,192 words and 32,768 blocks to 64 files, 64 words and 4 blocks; "
                                                f"the old image is {KEPT}-2 until you remove it"), "and back"
-    assert dump() == before
+    assert (limits(), dump()) == ((64, 64, 4, version), before)
 
 
-def test_a_large_file():
-    """In version 2."""
-    make("image", ("64", "64", "300", "v2"), b"add large 1048576\n" + bytes(1_048_576) + b"\n")
+@pytest.mark.parametrize("version", ((), ("v2",)))
+@pytest.mark.parametrize("numbers", ((8_192, 64, 64), (64, 8_256, 64), (64, 64, 32_769)))
+def test_limits_of_version_3(numbers, version):
+    """The image gets that version if the limits need it."""
+    make("image", ("64", "64", "4", *version), SESSION)
+    before = dump()
+    assert run("image", *map(str, numbers)) == (0, f"enlarge: image: from 64 files, 64 words and 4 blocks to {told_limits(*numbers)}, of version 3; the old "
+                                                   f"image is {KEPT} until you remove it")
+    assert (limits(), dump()) == ((*numbers, 3), before)
+
+
+def test_a_full_image_of_version_2():
+    """The command that `sync` and others name leads to version 3."""
+    make("image", ("4096", "64", "4", "v2"))
+    subprocess.run([PROGRAM, "load", "image"], input=b"".join(b"create f%d\n" % number for number in range(4_096)), stdout=subprocess.DEVNULL,
+                   timeout=LONG, check=True)
+    before, more = dump(), limits_module.full(NO_FILE_ROOM, limits_of("image"))
+    assert "`tools/enlarge image 8192 64 4`" in more.helps
+    assert run("image")[0] == 0
+    assert (limits(), dump()) == ((8_192, 64, 4, 3), before)
+
+
+def test_another_version():
+    """For larger files, with the same limits or others."""
+    make("image", ("64", "64", "300"), SESSION)
+    before = dump()
+    for word, version, name in (("v2", 2, KEPT), ("v3", 3, KEPT + "-2")):
+        assert run("image", "64", "64", "300", word) == (0, f"enlarge: image: from {told_limits(64, 64, 300)} to {told_limits(64, 64, 300)}, of version "
+                                                            f"{version}; the old image is {name} until you remove it")
+        assert (limits(), dump()) == ((64, 64, 300, version), before)
+    assert without_room("image", "64", "64", "300", "v2") == "image: it has these limits", "it goes to no earlier version"
+
+
+@pytest.mark.parametrize("size, version", ((1_048_576, 2), (1_048_577, 3)))
+def test_a_large_file(size, version):
+    """It is in the new image too."""
+    make("image", ("64", "64", "300", f"v{version}"), b"add large %d\n" % size + bytes(size) + b"\n")
     before = dump()
     assert run("image")[0] == 0
-    assert (limits(), dump()) == ((64, 64, 600, 2), before)
+    assert (limits(), dump()) == ((64, 64, 600, version), before)
 
 
 @pytest.mark.parametrize("numbers, said", (
-    (("100", "64", "8"), "FILES is '100', and has to be a power of two from 64 to 4096"),
-    (("8192", "0", "32769"), "FILES is '8192', and has to be a power of two from 64 to 4096; PROPS is '0', and has to be a multiple of 64 from 64 to "
-                             "8192; BLOCKS is '32769', and has to be a number from 1 to 32768"),
-    (("64", "100", "-1"), "PROPS is '100', and has to be a multiple of 64 from 64 to 8192; BLOCKS is '-1', and has to be a number from 1 to 32768"),
-    (("64", "64", "\u0664"), "BLOCKS is '\u0664', and has to be a number from 1 to 32768"),
+    (("100", "64", "8"), "FILES is '100', and has to be a power of two from 64 to 262144"),
+    (("524288", "0", "16777217"), "FILES is '524288', and has to be a power of two from 64 to 262144; PROPS is '0', and has to be a multiple of 64 from 64 "
+                                  "to 1048576; BLOCKS is '16777217', and has to be a number from 1 to 16777216"),
+    (("64", "100", "-1"), "PROPS is '100', and has to be a multiple of 64 from 64 to 1048576; BLOCKS is '-1', and has to be a number from 1 to 16777216"),
+    (("64", "64", "\u0664"), "BLOCKS is '\u0664', and has to be a number from 1 to 16777216"),
     (("128", "64", "3"), "5 blocks are used, and 3 are too few"), (("64", "64", "8"), "it has these limits")))
 def test_refused_numbers(numbers, said):
     make("image", ("64", "64", "8"), SESSION + b"create c\nadd d 1\nd\n")
@@ -130,11 +166,12 @@ def test_no_larger_one(monkeypatch):
     assert (dump(), limits(), os.listdir()) == (before, (64, 64, 8, 1), ["image"])
 
 
-@pytest.mark.parametrize("words", ((), ("image", "64"), ("image", "64", "64"), ("image", "64", "64", "8", "v2"), ("--nope", "image")))
+@pytest.mark.parametrize("words", ((), ("image", "64"), ("image", "64", "64"), ("image", "64", "64", "8", "v1"),
+                                   ("image", "64", "64", "8", "v3", "v3"), ("--nope", "image")))
 def test_wrong_use(words):
     make()
     status, line = run(*words)
-    assert status == 2 and "usage: tools/enlarge IMAGE [FILES PROPS BLOCKS]" in line
+    assert status == 2 and "usage: tools/enlarge IMAGE [FILES PROPS BLOCKS [v2|v3]]" in line
     assert os.listdir() == ["image"]
 
 

@@ -7,6 +7,7 @@ import sys
 import pytest
 
 import support
+from lisfs import limits
 from lisfs.client import PROGRAM
 from lisfs.folder import bring
 from support import images
@@ -100,6 +101,13 @@ def test_larger_files(program, sources):
         "import: 8 files taken, 2 not taken, 2 named otherwise", "import: an empty image has room for it from these limits on: 64 64 39 v2"]
     assert refused(brought.into("larger", ("64", "64", "39", "v2"))) == []
     assert bytes_of("larger", "larger") == content("src/b/larger")
+    written("src/b/largest", bytes(1_048_577))
+    assert Brought("--v2", "src").having("taken:") == ["import: not taken: 2 no plain file, 1 too large"]
+    brought = Brought("--v3", "--by-folder", "src")
+    assert brought.having("taken,", "limits") == [
+        "import: 8 files taken, 2 not taken, 2 named otherwise", "import: an empty image has room for it from these limits on: 64 64 281 v3"]
+    assert refused(brought.into("largest", ("64", "64", "281", "v3"))) == []
+    assert bytes_of("largest", "largest") == content("src/b/largest")
 
 
 def test_odd_folders(program):
@@ -223,7 +231,7 @@ def test_refusals_are_named(program, monkeypatch, capsys):
     """For what no image holds the report gives the cause, with the words that a refusal is about."""
     for number in range(70):
         written(f"top/d{number:02}/f", b"x")
-    monkeypatch.setattr(bring, "LARGEST", bring.LARGEST._replace(words=64))
+    monkeypatch.setattr(limits, "LARGEST", limits.LARGEST._replace(words=64))
     monkeypatch.setattr(sys, "argv", ["import", "--by-folder", "top"])
     assert bring.main() == 0
     said = capsys.readouterr().err

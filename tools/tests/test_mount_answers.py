@@ -5,7 +5,10 @@ import random
 import pytest
 
 from lisfs.client import Refused
+from lisfs.dumps import opened
 from lisfs.formulas import Place
+from lisfs.limits import limits_of
+from lisfs.mount.image import KEPT, Image
 from support import images
 from support.mount.answers import (
     DERIVED, FOLDERS, NAMES, NEW, RD, RW, TAKING_BACK, WR, by_messages, directly, make, really, told_by)
@@ -155,6 +158,19 @@ def sizes(ways):
     handle = ways.open("z", WR)
     assert told_by(ways.write, handle, b"x", 65_536) == "EFBIG", "written behind the end"
     ways.close(handle)
+
+
+def test_a_file_larger_than_what_is_kept():
+    """It is asked for once, although it is read in pieces."""
+    size = KEPT + 4_096
+    images.make("image", ("64", "64", "8300", "v3"), b"mkdir music\nadd large %d music\n%b\n" % (size, bytes(size)))
+    program, dump = opened("image")
+    with program:
+        asked, image = [], Image(program, dump, limits_of("image"))
+        real = program.cat
+        program.cat = lambda name: asked.append(name) or real(name)
+        large = image.files[b"large"]
+        assert all(image.content(large)[at:at + 4_096] == bytes(4_096) for at in range(0, size, 1_048_576)) and asked == [b"large"]
 
 
 def test_contents(way):

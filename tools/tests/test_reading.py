@@ -2,11 +2,14 @@
 
 LISFS_IMAGES_3 may name a folder of images of version 3: there are NAME.img.xz, the dump of each in NAME.dump, and `answers.txt`. A line of this says
 what opening answers for an image in which one byte is changed: `NAME.img byte 45 is 62: NotAnImage(Super)`.
+
+The built program, if there is one, answers as the reader does: over images that it made itself, whole and damaged, and over those of this folder.
 """
 import itertools
 import lzma
 import mmap
 import os
+import random
 import re
 import struct
 import subprocess
@@ -14,6 +17,10 @@ import sys
 
 import pytest
 import reading
+from lisfs.client import PROGRAM
+from support import images
+from support.inputs import random_input
+from support.waiting import LONG
 
 BLOCK = 4096
 IMAGES = os.environ.get("LISFS_IMAGES_3")
@@ -453,3 +460,108 @@ def test_answers():
         name, at, byte, spot = ANSWER.fullmatch(line).groups()
         image = unpacked(name)
         assert answer(image[:int(at)] + bytes([int(byte)]) + image[int(at) + 1:]) == spot
+
+
+# The program.
+
+# What the program says of each spot.
+SPOTS = {"Super": "super block", "BadRecord": "record at block", "Property": "property slot", "Axiom": "axiom slot", "File": "file slot",
+         "Word": "unused word in property slot", "Bitmap": "bitmap bit", "Row": "extension row", "Set": "set"}
+
+
+def said_by_the_program(image):
+    """The dump of an image, by the program, or the check that fails, as the reader names it."""
+    with open("image", "wb") as file:
+        file.write(image)
+    ran = subprocess.run([PROGRAM, "dump", "image"], stdin=subprocess.DEVNULL, capture_output=True, timeout=LONG, check=False)
+    if ran.returncode == 0:
+        return ran.stdout
+    said = ran.stderr.decode().splitlines()
+    assert ran.returncode == 2 and ran.stdout == b"", ran
+    if said[0] == "lisfs: image too short":
+        return "TooShort"
+    spot, number = re.fullmatch(r"image: (.*?)(?: ([0-9]+))?", said[1]).groups()
+    return next(name for name, words in SPOTS.items() if words == spot) + (f"({number})" if number else "")
+
+
+def made_by_the_program(number):
+    """An image of version 3 on which random commands ran, its journal perhaps not replayed."""
+    chance = random.Random(number)
+    images.make("made", (str(chance.choice((64, 128))), str(chance.choice((64, 192))), str(chance.choice((8, 40, 2_000))), "v3"))
+    for _ in range(chance.randrange(1, 4)):
+        subprocess.run([PROGRAM, chance.choice(("run", "load")), "made"], input=SETTING + random_input(chance), stdout=subprocess.DEVNULL, timeout=LONG,
+                       check=True)
+    with open("made", "rb") as file:
+        return bytearray(file.read())
+
+
+# Words and files besides those of random inputs: mails, sources, tests, axioms, and a large file.
+SETTING = (b"mkdir w\nmkdir v\nmkdir y:\nmkdir size>=5\naxiom from:ann@x w\naxiom w v\nadd m.eml 24 w\nFrom: ann@x\nSubject: hi\n\nadd s.c 13 v y:1\n"
+           b"int main() {}\nadd large 70000 w\n" + b"l" * 70_000 + b"\nwrite large 80001\n" + b"k" * 80_001 + b"\nrm s.c\n")
+
+
+def places_in(image):
+    """The bytes of each part of an image that are not zero."""
+    files, words, blocks = struct.unpack_from("<3I", image, 12)
+    begins = [0, 1, 2, *Image(blocks, 3, files, words).parts.values()]
+    found = [[at for at in range(begin * BLOCK, end * BLOCK) if image[at]] for begin, end in itertools.pairwise(begins)]
+    return [places for places in found if places]
+
+
+def damaged(image, places, chance):
+    """An image with one or two bytes changed, near one that is not zero."""
+    other = image.copy()
+    for _ in range(chance.randrange(1, 3)):
+        at = min(chance.choice(chance.choice(places)) + chance.choice((0, 0, 0, 1, 2, 4, -1)), len(image) - 1)
+        other[at] = chance.choice((0, 1, 2, 255, chance.randrange(256), image[at] ^ 1 << chance.randrange(8)))
+    return other
+
+
+@pytest.mark.parametrize("number", range(12))
+def test_images_of_the_program(program, number):
+    """Whole, damaged and cut."""
+    image = made_by_the_program(number)
+    chance, places, whole = random.Random(number), places_in(image), answer(bytes(image))
+    assert said_by_the_program(image) == whole and isinstance(whole, bytes)
+    for _ in range(20):
+        other = damaged(image, places, chance)
+        wanted = answer(bytes(other))
+        assert said_by_the_program(other) == wanted, wanted
+    short = image[:chance.randrange(len(image))]
+    assert said_by_the_program(short) == answer(bytes(short))
+
+
+@pytest.mark.parametrize("count", (17, 1_024, 1_025, 2_049))
+def test_large_files_of_the_program(program, count):
+    """Files whose numbers fill one index block or more."""
+    images.make("made", ("64", "64", str(count + 3), "v3"), b"add l.c %d\n%b\n" % (len(source(count)), source(count)))
+    with open("made", "rb") as file:
+        image = file.read()
+    assert answer(image) == said_by_the_program(image) == added(source(count))
+
+
+def test_an_image_of_the_writer(program):
+    """The program opens what the writer here makes, and goes on with it."""
+    image = large(1_025)
+    assert said_by_the_program(image.bytes) == added(source(1_025))
+    subprocess.run([PROGRAM, "run", "image"], input=b"mkdir w\nmv l.c w\nadd small 2 w\nhi\n", stdout=subprocess.DEVNULL, timeout=LONG, check=True)
+    with open("image", "rb") as file:
+        assert answer(file.read()) == b"mkdir w\nadd l.c %d w\n%b\nadd small 2 w\nhi\n" % (len(source(1_025)), source(1_025))
+
+
+@needs_images
+def test_images_of_another_program(program):
+    for name in sorted(name for name in os.listdir(IMAGES) if name.endswith(".dump")):
+        with open(os.path.join(IMAGES, name), "rb") as file:
+            assert said_by_the_program(unpacked(name.removesuffix(".dump") + ".img")) == file.read(), name
+
+
+@needs_images
+def test_answers_of_the_program(program):
+    with open(os.path.join(IMAGES, "answers.txt"), encoding="ascii") as file:
+        lines = file.readlines()
+    for line in lines:
+        name, at, byte, spot = ANSWER.fullmatch(line).groups()
+        image = bytearray(unpacked(name))
+        image[int(at)] = int(byte)
+        assert said_by_the_program(image) == spot, line

@@ -461,6 +461,17 @@ def test_an_editor(does, status, said, content):
     assert asked(b"cat notes") == b"b 15\n" + content + b"\nok\n"
 
 
+def test_an_editor_of_a_large_file():
+    """In an image of version 3."""
+    text = b"".join(b"line %d\n" % number for number in range(250_000))
+    images.make("large.lis", ("64", "64", "2000", "v3"), b"add notes %d\n%b\n" % (len(text), text))
+    with Served("large.lis", "large.lis.socket"):
+        ran = subprocess.run([support.tool("edit"), "large.lis", "notes", "word:77777|word:200000"], capture_output=True, check=False, timeout=LONG,
+                             env={**os.environ, "VISUAL": "sed -i s/line/LINE/", "EDITOR": ""})
+        assert (ran.returncode, ran.stdout) == (0, b""), ran
+    assert images.bytes_of("notes", "large.lis") == text.replace(b"line 77777\n", b"LINE 77777\n").replace(b"line 200000\n", b"LINE 200000\n")
+
+
 @pytest.mark.parametrize("change", (b"write notes 6\nbeta!\n", b"rm notes"))
 def test_an_editor_and_another_client(change):
     """While the editor was open another client has changed the view, or removed the file: nothing is written."""

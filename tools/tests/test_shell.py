@@ -245,13 +245,14 @@ def test_files(image):
         assert shell(b"get rest dangling\n") == (1, b"", "shell: dangling: it is there already, and no plain file\n"), "a link that leads nowhere"
 
 
-def test_the_most_of_version_2(program):
-    make("second", ("64", "64", "300", "v2"))
-    written("most", ALL_BYTES * 4_096)
-    written("huge", bytes(1_048_577))
-    assert shell(b"put most\nput huge\nget most out\n", "second") == (
-        1, b"most: 1,048,576 bytes\nout: 1,048,576 bytes\n", "shell: huge: it has 1,048,577 bytes, and a file of this image at most 1,048,576\n")
-    assert content("out") == ALL_BYTES * 4_096, "it is the same"
+@pytest.mark.parametrize("limits, size, most", ((("64", "64", "300", "v2"), 1_048_576, 1_048_576), (("64", "64", "800", "v3"), 3_000_064, 3_276_800)))
+def test_large_files(program, limits, size, most):
+    make("second", limits)
+    written("large", ALL_BYTES * (size // 256))
+    written("huge", bytes(most + 1))
+    assert shell(b"put large\nput huge\nget large out\n", "second") == (
+        1, f"large: {size:,} bytes\nout: {size:,} bytes\n".encode(), f"shell: huge: it has {most + 1:,} bytes, and a file of this image at most {most:,}\n")
+    assert content("out") == ALL_BYTES * (size // 256), "it is the same"
 
 
 def there(program, names):

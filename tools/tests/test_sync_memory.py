@@ -6,10 +6,9 @@ import time
 
 import pytest
 
-from lisfs.constants import BLOCK_LEN, MAX_IMAGE_BLOCKS
 from lisfs.folder import private
 from lisfs.folder.memory import KEPT, YEAR, Memory, Record, words_of_memories
-from support.images import content, session, written
+from support.images import content, dump, session, written
 from support.syncing import LIMITS, make, memory_words, sync
 
 MARKER = b"sync:t"
@@ -154,9 +153,27 @@ def test_a_long_device(image):
     written("top/f", "x\n")
     assert sync("--as", "t", "--dry-run", image, "top")[:2] == (0, ["new: f: top/f", "sync:t: would be 1 new, 0 as they were"])
     private.copy_image(image, "copy")
-    assert os.path.getsize("copy") == MAX_IMAGE_BLOCKS * BLOCK_LEN and os.stat("copy").st_blocks * 512 < 2 * len(whole)
-    with open("copy", "rb") as file:
-        assert file.read(len(whole)) == whole
+    assert content("copy") == whole
+
+
+@pytest.mark.parametrize("size", (0, 7, 24, 25, 5_000))
+def test_a_copy_of_what_is_no_image(size):
+    """It is copied whole: what is wrong with it, the program says."""
+    written("image", b"LISFS-IM".ljust(size, b"x")[:size])
+    private.copy_image("image", "copy")
+    assert content("copy") == content("image")
+
+
+def test_a_copy_of_a_sparse_image(program):
+    """Of version 3, with room for many gigabytes. The copy takes as little room, and as little time."""
+    make("image", ("65536", "8192", "16777216", "v3"))
+    with session() as program:
+        program.add(b"f", b"x" * 70_000)
+    began = time.process_time()
+    private.copy_image("image", "copy")
+    assert time.process_time() - began < 5, "holes are not read"
+    assert os.path.getsize("copy") == os.path.getsize("image") and os.stat("copy").st_blocks <= os.stat("image").st_blocks
+    assert dump("copy") == dump("image")
 
 
 def test_no_space_for_a_copy(monkeypatch):

@@ -1,6 +1,6 @@
 """Makes a session from a folder or a maildir: the words that are needed, and an `add` line with its bytes for each file.
 
-usage: tools/import [--word WORD].. [--by-folder] [--without PATTERN].. [--since DATE] [--newest N] [--threads] [--v2] [--verbose] FOLDER > session
+usage: tools/import [--word WORD].. [--by-folder] [--without PATTERN].. [--since DATE] [--newest N] [--threads] [--v2|--v3] [--verbose] FOLDER > session
        ./lisfs run files.lis < session
        tools/talk files.lis < session      (if files.lis is served by `tools/serve files.lis`)
 
@@ -12,7 +12,7 @@ words: first those of --word, then those of its folders, then its own.
 A folder that has `cur` and `new` in it is a maildir, and so is a folder below that has these and `tmp`. Their mails are read, and those of
 folders named `.NAME.NAME`. Each mail is named after its file without the flags, and the name ends with `.eml`. Elsewhere a file named `.eml`
 is a mail. --without skips files and folders with such a name, as `.git` or `*.o`, and may be repeated. --v2 is for an image of version 2: it
-takes files of up to 1,048,576 bytes; without it 65,536 are the most.
+takes files of up to 1,048,576 bytes. --v3 is for one of version 3, and takes files of up to 67,108,864. Without them 65,536 are the most.
 
 --threads gives the mails of each thread one word more, `thread:` and the subject of the thread's first mail. A mail whose parent, by References and
 In-Reply-To, is not in the folder begins a thread, and a mail alone gets no such word.
@@ -38,16 +38,17 @@ import sys
 from collections.abc import Callable, Iterator, Sequence
 from typing import BinaryIO, NamedTuple
 
+from lisfs import derived
 from lisfs.client import PROGRAM, Ended, NotAReply, Program, counts_in
-from lisfs.constants import MAX_ASSIGNED, MAX_WORD
+from lisfs.constants import MAX_ASSIGNED, MAX_DERIVED, MAX_WORD
 from lisfs.endings import Stopped, folder_fault, quiet, stop_at_signals
 from lisfs.folder import walk
-from lisfs.folder.carrying import ROOT, Job, Sender, Step, Words, fitting, session_word
+from lisfs.folder.carrying import BY_NAME, HEADS_BY_BYTES, ROOT, Job, Sender, Step, Words, fitting, session_word
 from lisfs.folder.entries import Entries, Entry, newest_first
 from lisfs.folder.forms import folder_value
 from lisfs.folder.options import at_least_one, day
 from lisfs.folder.report import Telling, counted, left_out
-from lisfs.limits import LARGEST, VERSIONS, Limits, Need, beyond, blocks_of, smallest
+from lisfs.limits import LARGEST, VERSIONS, Need, beyond, blocks_of, roomy, smallest
 from lisfs.progress import Progress
 from lisfs.refusals import cause_of
 from lisfs.showing import harmless, write_line
@@ -67,6 +68,7 @@ class Options(argparse.Namespace):
     newest: int | None
     threads: bool
     v2: bool
+    v3: bool
     verbose: bool
     folder: str
 
@@ -230,8 +232,13 @@ class Import:
             more = "; ..." if len(largest.refused) > SOME else ""
             self.tell(f"no image holds all of it: the largest one refuses {counted(largest.refused.total(), 'line')}: {'; '.join(some)}{more}; "
                       "--newest N takes the newest files")
-        elif limits := smallest(need):
-            self.tell(f"an empty image has room for it from these limits on: {' '.join(limits._replace(version=self.version).make())}")
+        elif limits := smallest(need, self.version):
+            self.tell(f"an empty image has room for it from these limits on: {' '.join(limits.make())}")
+
+
+def most_words(taken: Taken) -> int:
+    """The most words that become known by a file, those that it is given with their heads and those derived from it."""
+    return 2 * len(taken.words) + BY_NAME + (MAX_DERIVED + HEADS_BY_BYTES if derived.has_many(taken.name) else 0)
 
 
 class Session(NamedTuple):
@@ -242,11 +249,14 @@ class Session(NamedTuple):
 
 
 class Largest:
-    """The largest image that can exist, if the program is built: `known` is how many words it knows at the end, those derived from files among them,
-    and `refused` how many lines it refused. `why` says why these can't be counted."""
+    """An image with room for all that can be in one, if the program is built: `known` is how many words it knows at the end, those derived from files
+    among them, and `refused` how many lines it refused. `why` says why these can't be counted."""
 
-    def __init__(self, folder: str, version: int) -> None:
-        self.known, self._limits = 0, Limits(LARGEST.files, LARGEST.words, LARGEST.blocks, version)
+    def __init__(self, folder: str, taken: Sequence[Taken]) -> None:
+        # A block that is not written takes no room, and files may grow until they are read.
+        sizes = [file.found.size or 0 for file in taken]
+        most = Need(len(taken), sum(map(most_words, taken)), 2 * sum(map(blocks_of, sizes)), max(sizes, default=0))
+        self.known, self._limits = 0, roomy(most)
         # How many lines it refused for each cause, and the words that it has declared.
         self.refused: collections.Counter[str] = collections.Counter()
         self._declared: set[bytes] = set()
@@ -303,6 +313,7 @@ def main() -> int:
     parser.add_argument("--newest", type=at_least_one)
     parser.add_argument("--threads", action="store_true")
     parser.add_argument("--v2", action="store_true")
+    parser.add_argument("--v3", action="store_true")
     parser.add_argument("--verbose", action="store_true")
     parser.add_argument("folder")
     words = parser.parse_args(namespace=Options())
@@ -315,13 +326,13 @@ def main() -> int:
     if fault := folder_fault(words.folder):
         write_line(sys.stderr, f"import: {fault}")
         return 2
-    taking = Import(given, words.by_folder, 2 if words.v2 else 1, Telling("import", sys.stderr, words.verbose))
+    taking = Import(given, words.by_folder, 3 if words.v3 else 2 if words.v2 else 1, Telling("import", sys.stderr, words.verbose))
     stop_at_signals()
     try:
         taking.read(words)
         import tempfile
         with tempfile.TemporaryDirectory() as folder:
-            largest = Largest(folder, taking.version)
+            largest = Largest(folder, taking.files)
             taking.carry(sys.stdout.buffer, largest)
             largest.end()
     except (KeyboardInterrupt, Stopped):

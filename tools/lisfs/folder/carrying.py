@@ -14,7 +14,7 @@ from typing import NamedTuple, Protocol, TypeAlias
 
 from lisfs import derived
 from lisfs.client import PROGRAM, ROOM_LINE, BodyLine, Program, Refused, counts_in
-from lisfs.constants import LARGE_DESCRIPTION, MAX_DERIVED, MAX_LARGE_FILE, NO_FILE_ROOM, NO_PROPERTY_ROOM, NO_SPACE
+from lisfs.constants import LARGE_DESCRIPTION, MAX_DERIVED, NO_FILE_ROOM, NO_PROPERTY_ROOM, NO_SPACE, V3_MAX_FILE
 from lisfs.folder import memory, names, walk
 from lisfs.folder.changes import MARKER, Change, Changes, Done
 from lisfs.folder.entries import Entry, newest_first
@@ -482,7 +482,7 @@ def most_words(change: Change) -> int:
 
 def fitting(name: bytes, words: Sequence[bytes]) -> tuple[list[bytes], Sequence[bytes]]:
     """A name and as many words as fit the line that makes a file, also for a served image, and the words that don't."""
-    room, line = ROOM_LINE - len(b"add  %d" % MAX_LARGE_FILE) - len(name), [name]
+    room, line = ROOM_LINE - len(b"add  %d" % V3_MAX_FILE) - len(name), [name]
     for number, word in enumerate(words):
         room -= len(word) + 1
         if room < 0:

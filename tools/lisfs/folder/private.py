@@ -3,13 +3,14 @@ from __future__ import annotations
 
 import contextlib
 import errno
+import io
 import os
 import stat
 from collections.abc import Iterator
 
 from lisfs.client import held
-from lisfs.constants import BLOCK_LEN, MAX_IMAGE_BLOCKS
 from lisfs.dumps import NotADump
+from lisfs.limits import BEGIN, HEAD, limits_in
 from lisfs.opening import joined
 
 # How often the copy of a served image is made again, if another client has changed the image meanwhile.
@@ -34,7 +35,7 @@ def private_copy(image: str) -> Iterator[str]:
 
 
 def copy_image(image: str, path: str) -> None:
-    """Copies an image while nobody else can change it. Of a longer device it copies the most bytes that an image can have."""
+    """Copies an image while nobody else can change it. Of a longer device it copies the bytes of the image alone."""
     kind = os.stat(image).st_mode
     if not (stat.S_ISREG(kind) or stat.S_ISBLK(kind) or stat.S_ISDIR(kind)):
         # Opening a pipe would block. For a folder the system says what is wrong.
@@ -55,10 +56,27 @@ def copy_image(image: str, path: str) -> None:
 
 def copy_bytes(image: str, path: str) -> None:
     with open(image, "rb", buffering=0) as source, open(path, "wb") as copy:
-        size = min(source.seek(0, os.SEEK_END), MAX_IMAGE_BLOCKS * BLOCK_LEN)
+        size = length_of(source)
         copy.truncate(size)
-        for at in range(0, size, PIECE):
+        at = data_from(source, 0)
+        while at is not None and at < size:
             piece = os.pread(source.fileno(), min(PIECE, size - at), at)
             if piece.count(0) < len(piece):
                 copy.seek(at)
                 copy.write(piece)
+            at = data_from(source, at + PIECE)
+
+
+def length_of(source: io.FileIO) -> int:
+    """How many bytes of a file or a device an image has, if one begins there; otherwise all."""
+    size, head = source.seek(0, os.SEEK_END), os.pread(source.fileno(), HEAD, 0)
+    return min(size, limits_in(head, "").image_bytes) if head.startswith(BEGIN) and len(head) == HEAD else size
+
+
+def data_from(source: io.FileIO, at: int) -> int | None:
+    """Where the first data from a byte on is, before which an image has zeros that take no room; None if there is none. A system that does not say so
+    has data everywhere."""
+    try:
+        return os.lseek(source.fileno(), at, os.SEEK_DATA)
+    except OSError as error:
+        return None if error.errno == errno.ENXIO else at

@@ -296,7 +296,8 @@ class Image(image.Image[File]):
         self._drop(file)
         self.contents[file] = content
         self.content_bytes += len(content)
-        while self.content_bytes > KEPT:
+        # The newest stays, however large it is: a program reads a file in many pieces.
+        while self.content_bytes > KEPT and len(self.contents) > 1:
             self._drop(next(iter(self.contents)))
 
     def _drop(self, file: File) -> None:

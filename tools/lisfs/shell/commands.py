@@ -5,16 +5,16 @@ import textwrap
 from typing import NamedTuple
 
 from lisfs.constants import (
-    ALREADY_DECLARED, AXIOM_THERE, BAD_FORMULA, BUILT_IN, CYCLE, IN_USE, LARGE_DESCRIPTION, LARGE_FILE, LARGE_FORMULA, MAX_ASSIGNED, MAX_FILES,
+    ALREADY_DECLARED, AXIOM_THERE, BAD_FORMULA, BUILT_IN, CYCLE, IN_USE, LARGE_DESCRIPTION, LARGE_FILE, LARGE_FORMULA, MAX_ASSIGNED,
     MAX_LINE, MAX_WORD, NAME_TAKEN, NO_AXIOM, NO_AXIOM_ROOM, NO_FILE_HERE, NO_FILE_ROOM, NO_PROPERTY_ROOM, NO_SPACE, NOT_A_PLACE, NOT_ASSIGNABLE,
-    NOT_DECLARED, TOO_MANY_ASSIGNED, UNKNOWN_PROPERTY)
+    NOT_DECLARED, TOO_MANY_ASSIGNED, UNKNOWN_PROPERTY, V3_MAX_FILES)
 from lisfs.refusals import meaning
 from lisfs.shell.undoing import UNDOABLE
 
 # How many words of a head a listing shows on a terminal, and how many files are changed at once without a question.
 SOME, ASKED = 20, 20
 # A line of `tag` and `untag` may name all files of an image, and as many words as a file is given. The shell turns it into commands.
-LONGEST = (1 + MAX_FILES + MAX_ASSIGNED) * (MAX_WORD + 1)
+LONGEST = (1 + V3_MAX_FILES + MAX_ASSIGNED) * (MAX_WORD + 1)
 
 
 class Part(enum.Enum):

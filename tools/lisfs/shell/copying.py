@@ -10,7 +10,6 @@ from collections.abc import Callable, Collection, Sequence
 from typing import NoReturn
 
 from lisfs.client import Ended, NotAReply, Refused
-from lisfs.constants import MAX_LARGE_FILE
 from lisfs.index import File
 from lisfs.shell.commands import COMMANDS
 from lisfs.shell.explaining import Failed, bad_line, of_files, said, sentence, with_blanks
@@ -64,7 +63,7 @@ class Copying:
             if not stat.S_ISREG(found.st_mode):
                 raise Failed(f"{harmless(path)}: no plain file")
             with open(path, "rb") as file:
-                content = file.read(MAX_LARGE_FILE + 1)
+                content = file.read(most + 1)
         except OSError as error:
             raise Failed(f"{harmless(path)}: {error.strerror}") from None
         if len(content) > most:

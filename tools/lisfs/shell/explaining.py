@@ -10,7 +10,7 @@ from typing import TypeAlias
 
 from lisfs import constants
 from lisfs.client import Refused, words_of
-from lisfs.constants import MAX_ASSIGNED, MAX_DESCRIPTION, MAX_DIGITS, MAX_FORMULA, MAX_LARGE_FILE, MAX_NODES
+from lisfs.constants import MAX_ASSIGNED, MAX_DESCRIPTION, MAX_DIGITS, MAX_FORMULA, MAX_NODES, V3_MAX_FILE
 from lisfs.formulas import words_in
 from lisfs.limits import blocks_of, full
 from lisfs.refusals import MEANT, meaning, without_blanks
@@ -219,7 +219,7 @@ def too_many_had(command: str, given: Words, session: Session) -> str:
 def file_too_large(command: str, given: Words, session: Session) -> str:
     count = int(given[1])
     # A count that is too large for a line has no number.
-    many = f"{count:,}" if count <= MAX_LARGE_FILE else f"more than {MAX_LARGE_FILE:,}"
+    many = f"{count:,}" if count <= V3_MAX_FILE else f"more than {V3_MAX_FILE:,}"
     return f"{said(*given[:1])}: it has {many} bytes, and a file of this image at most {session.limits.file_bytes:,}"
 
 

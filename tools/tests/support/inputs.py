@@ -13,6 +13,7 @@ import runs
 import sessions
 from lisfs.client import PROGRAM, ROOM_LINE, Ended, Item, Items, NotAReply, Program, Replies, shown_by, words_of
 from lisfs.constants import MAX_LARGE_FILE, MAX_LINE
+from lisfs.limits import limits_of
 
 # What was received for each command: its reply, or at the end what was no reply.
 Got: TypeAlias = list[bytes | NotAReply]
@@ -95,7 +96,7 @@ ROOMS_BY_TURNS = (0, 0, 5, 2)
 
 def differences(number: int) -> list[tuple[object, ...]]:
     """How the client and the program differ over the session of this number. It makes its images in the current folder."""
-    chance, limits = random.Random(number), ("64", "64", "40", "v2") if number % 2 else ("64", "64", "8")
+    chance, limits = random.Random(number), (("64", "64", "8"), ("64", "64", "40", "v2"), ("64", "64", "40", "v3"))[number % 3]
     Program([PROGRAM, "make", "image", *limits]).close()
     shown_by([PROGRAM, "run", "image"], BEFORE)
     data = random_input(chance)
@@ -129,7 +130,7 @@ def as_it_is(image: str, data: bytes) -> Got:
 def in_commands(image: str, data: bytes, chance: random.Random) -> Got:
     """The replies to what the client makes of an input, whose last line and last payload may lack their line feeds."""
     with Program([PROGRAM, "run", image]) as program:
-        items = Items(MAX_LINE)
+        items = Items(MAX_LINE, most=limits_of(image).file_bytes)
         for taken in itertools.chain(taken_in_pieces(items, data, chance), at_the_end(items)):
             program.send_bytes(*taken)
     return [*received(program), *[CUT] * items.is_cut()]
@@ -157,7 +158,7 @@ def at_the_end(items: Items) -> Iterator[Item]:
 def in_rooms(image: str, data: bytes, chance: random.Random) -> Got:
     """The replies to the complete commands, in alternating rooms."""
     with Program([PROGRAM, "rooms", image], rooms=True) as program:
-        for taken, room in zip(taken_in_pieces(Items(ROOM_LINE), data, chance), itertools.cycle(ROOMS_BY_TURNS)):
+        for taken, room in zip(taken_in_pieces(Items(ROOM_LINE, most=limits_of(image).file_bytes), data, chance), itertools.cycle(ROOMS_BY_TURNS)):
             program.send_bytes(*taken, room)
     return received(program)
 
